@@ -1,0 +1,3 @@
+pub mod Ids
+pub mod Rights
+pub mod Words

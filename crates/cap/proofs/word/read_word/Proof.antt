@@ -1,0 +1,23 @@
+use Rattle.laws.proofs.Cases.{cases}
+use Rattle.cap.specs.Word.{readWord}
+use borrow.Author.Needs.{needs}
+use Rattle.cap.proofs.word.read_word.Statement.{statement}
+use Rattle.cap.proofs.word.read_word.Tie as tie
+
+returns : tie.Need-returns
+unfolding readWord
+returns c = search cases
+
+returns-2 : tie.Need-returns-2
+unfolding readWord
+returns-2 c = search cases
+
+cast-t6 : tie.Need-cast-t6
+cast-t6 c = search needs
+
+returns-3 : tie.Need-returns-3
+unfolding readWord
+returns-3 c = search cases
+
+pub read-word-spec : {M : Type 1} → statement M
+read-word-spec = tie.close (tie.spec returns returns-2 cast-t6 returns-3)

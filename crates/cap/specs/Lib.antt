@@ -1,0 +1,4 @@
+pub mod Id
+pub mod Rights
+pub mod Slot
+pub mod Word

@@ -1,0 +1,45 @@
+// A slot of a task's capability row, and the row read at an index.
+ghost use mathlib.Core.Path.{_≡_};
+ghost use Rattle.cap.specs.Slot.{fromSlot, slotNumber};
+use crate::CapId;
+use laws::refusals;
+
+// A place for an id. A vacant one is all zero, and its id is never read; raw 0 present is an id.
+pub struct Slot {
+    pub present: bool,
+    pub id: CapId,
+}
+
+// What a row holds at a slot. Two refusals, since they are two faults: a slot outside the row, and one in it that nobody filled.
+pub enum SlotAnswer {
+    Names(CapId),
+    OutOfRange { slot: usize, slots: usize },
+    Vacant { slot: usize },
+}
+
+impl SlotAnswer {
+    pub fn number(self) -> u8
+        ensures { λ r. ⌜ r ≡ slotNumber self ⌝ }
+    {
+        match self {
+            SlotAnswer::Names(_) => refusals::ACCEPTED,
+            SlotAnswer::OutOfRange { slot: _, slots: _ } => refusals::OUT_OF_RANGE,
+            SlotAnswer::Vacant { slot: _ } => refusals::VACANT,
+        }
+    }
+}
+
+// The id at `slot` of a task's own row. What lies outside the row cannot be named.
+pub fn from_slot(row: [Slot; 4], slot: usize) -> SlotAnswer
+    ensures { λ r. ⌜ r ≡ fromSlot row slot ⌝ }
+{
+    if slot >= 4 {
+        return SlotAnswer::OutOfRange { slot, slots: 4 };
+    }
+    let held = row[slot];
+    if held.present {
+        let id = held.id;
+        return SlotAnswer::Names(id);
+    }
+    SlotAnswer::Vacant { slot }
+}

@@ -1,0 +1,47 @@
+-- A test at each index below a bound: what it says of each index, and one turn of a loop that runs it. Assumes nothing.
+use mathlib.Core.Path.{_≡_, refl, sym, _∙_}
+use mathlib.Core.Bool.{Bool, true, false, _&&_, _||_, not}
+use mathlib.Core.Logic.{_⊎_, inl, inr, ⊎-elim}
+use Prim.Native.Nat.{ℕ, zero, suc, _+_, _<_, _≤_}
+use native.Mathlib.Nat.{not-suc-le-zero, le-of-suc-le-suc, eq-or-lt-of-le}
+use native.Mathlib.Numerals.{add-one}
+use native.Mathlib.Omega.{arith}
+use Rattle.laws.specs.Pick.{pick}
+use Rattle.laws.specs.Every.{every, some, count}
+
+pub and-left : (a b : Bool) → (a && b) ≡ true → a ≡ true
+and-left true b h = refl
+and-left false b h = h
+
+pub and-right : (a b : Bool) → (a && b) ≡ true → b ≡ true
+and-right true b h = h
+and-right false true h = refl
+and-right false false h = h
+
+pub and-both : (a b : Bool) → a ≡ true → b ≡ true → (a && b) ≡ true
+and-both a b p q = simp (p, q)
+
+-- the test over all indices says so of each, and back
+pub every-at : (f : ℕ → Bool) (n : ℕ) → every f n ≡ true → (k : ℕ) → k < n → f k ≡ true
+unfolding every
+every-at f zero h k l = absurd (not-suc-le-zero l)
+every-at f (suc n) h k l =
+    ⊎-elim (λ e. rw e (and-right (every f n) (f n) h)) (λ p. every-at f n (and-left (every f n) (f n) h) k p)
+    (eq-or-lt-of-le (le-of-suc-le-suc l))
+
+pub at-every : (f : ℕ → Bool) (n : ℕ) → ((k : ℕ) → k < n → f k ≡ true) → every f n ≡ true
+unfolding every
+at-every f zero h = refl
+at-every f (suc n) h = and-both (every f n) (f n) (at-every f n (λ k l. h k (omega arith))) (h n (omega arith))
+
+-- a loop `while i < n { ok = ok & f(i); i += 1; }`: before it, a turn, and the end
+pub every-none : (f : ℕ → Bool) → true ≡ every f 0
+unfolding every
+every-none f = refl
+
+pub every-step : (f : ℕ → Bool) (i : ℕ) (ok v : Bool) → ok ≡ every f i → v ≡ f i → (ok && v) ≡ every f (i + 1)
+unfolding every
+every-step f i ok v p q = simp (p, q, add-one)
+
+pub every-done : (f : ℕ → Bool) (i n : ℕ) (ok : Bool) → i ≤ n → n ≤ i → ok ≡ every f i → ok ≡ every f n
+every-done f i n ok l g p = let e : i ≡ n = omega arith in rw e at p

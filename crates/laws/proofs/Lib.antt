@@ -1,0 +1,5 @@
+pub mod Cases
+pub mod Search
+pub mod Every
+pub mod Lists
+pub mod Same

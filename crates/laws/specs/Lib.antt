@@ -1,0 +1,4 @@
+pub mod Pick
+pub mod Place
+pub mod Every
+pub mod Refusals
