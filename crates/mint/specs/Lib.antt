@@ -1,0 +1,4 @@
+pub mod Generation
+pub mod Entry
+pub mod Answer
+pub mod Entries

@@ -1,0 +1,97 @@
+// What the two mint tables share: an entry, its generations, and the answers. Ported from irqcap.rs and taskcap.rs.
+ghost use mathlib.Core.Path.{_≡_};
+ghost use Rattle.mint.specs.Generation.{nextGeneration};
+ghost use Rattle.mint.specs.Entry.{mintedEntry, namesOf, isOf, endedEntry};
+ghost use Rattle.mint.specs.Answer.{mintNumber, lookupNumber};
+use cap::CapId;
+use laws::refusals;
+
+// One entry of a mint table. A dead one keeps the generation of its last life, so that an id of that life stays worthless.
+pub struct Entry {
+    pub live: bool,
+    pub generation: u16,
+    pub number: u32,
+}
+
+pub enum MintAnswer {
+    Minted(CapId),
+    NoFreeEntry,
+}
+
+pub enum LookupAnswer {
+    Names(u32),
+    BadCap,
+}
+
+impl MintAnswer {
+    pub fn number(self) -> u8
+        ensures { λ r. ⌜ r ≡ mintNumber self ⌝ }
+    {
+        match self {
+            MintAnswer::Minted(_) => refusals::ACCEPTED,
+            MintAnswer::NoFreeEntry => refusals::NO_FREE_ENTRY,
+        }
+    }
+}
+
+impl LookupAnswer {
+    pub fn number(self) -> u8
+        ensures { λ r. ⌜ r ≡ lookupNumber self ⌝ }
+    {
+        match self {
+            LookupAnswer::Names(_) => refusals::ACCEPTED,
+            LookupAnswer::BadCap => refusals::BAD_CAP,
+        }
+    }
+}
+
+// A wrapped generation must not come out as 0, which is what an entry that was never minted carries.
+pub fn next_generation(g: u16) -> u16
+    ensures { λ r. ⌜ r ≡ nextGeneration g ⌝ }
+{
+    let next = std::num::wrapping_add_u16(g, 1);
+    if next == 0 {
+        return 1;
+    }
+    next
+}
+
+// The entry `e` in its next life, for `number`.
+pub fn minted(e: Entry, number: u32) -> Entry
+    ensures { λ r. ⌜ r ≡ mintedEntry e number ⌝ }
+{
+    Entry {
+        live: true,
+        generation: next_generation(e.generation),
+        number,
+    }
+}
+
+// What `e` answers to an id of `generation`.
+pub fn names(e: Entry, generation: u16) -> LookupAnswer
+    ensures { λ r. ⌜ r ≡ namesOf e generation ⌝ }
+{
+    if !e.live {
+        return LookupAnswer::BadCap;
+    }
+    if e.generation != generation {
+        return LookupAnswer::BadCap;
+    }
+    let number = e.number;
+    LookupAnswer::Names(number)
+}
+
+// Whether `e` is live and stores `number`.
+pub fn is_of(e: Entry, number: u32) -> bool
+    ensures { λ r. ⌜ r ≡ isOf e number ⌝ }
+{
+    e.live & (e.number == number)
+}
+
+// The entry `e` dead: its generation and its number stay.
+pub fn ended(mut e: Entry) -> Entry
+    ensures { λ r. ⌜ r ≡ endedEntry e ⌝ }
+{
+    e.live = false;
+    e
+}
