@@ -1,0 +1,28 @@
+-- Document 01, "Channels": `clear_waiter` removes that task from every mailbox and counts.
+use mathlib.Core.Bool.{Bool, _&&_}
+use mathlib.Core.List.{map}
+use Prim.Native.Nat.{ℕ}
+use Rattle.laws.specs.Pick.{pick}
+use Rattle.laws.specs.Every.{count}
+use Rattle.ipc.specs.State.{nobody, mailboxAt, withMailboxes, withWaiter}
+use Rattle.ipc.specs.Receive.{sameTask}
+use Rattle.ipc.specs.declared.state.Mailbox.{Mailbox}
+use Rattle.ipc.specs.declared.state.TaskId.{TaskId}
+use Rattle.ipc.specs.declared.state.Table.{Table}
+use Rattle.ipc.specs.declared.answers.Clearing.{Clearing}
+use Rattle.ipc.specs.declared.answers.ClearAnswer.{ClearAnswer}
+use Rattle.ipc.specs.declared.answers.ClearAnswer.the-variants.{Cleared}
+
+-- the task waits on the mailbox
+abbrev pub waitsOn : Mailbox → TaskId → Bool
+waitsOn b task = b .waiter .present && sameTask (b .waiter .task) task
+
+unfoldable pub withoutWaiter : TaskId → Mailbox → Mailbox
+withoutWaiter task b = pick (waitsOn b task) (withWaiter b nobody) b
+
+unfoldable pub clearOf : Table → TaskId → Clearing
+clearOf t task =
+    record {
+      answer = Cleared (count (λ k. waitsOn (mailboxAt t k) task) 32);
+      table = withMailboxes t (map (withoutWaiter task) (t .mailboxes));
+    }

@@ -1,0 +1,32 @@
+// Whether an id opens an endpoint: the one door to a mailbox.
+ghost use mathlib.Core.Path.{_≡_};
+ghost use Rattle.ipc.specs.Opening.{openOf};
+use crate::state::Endpoint;
+use cap::CapId;
+use cap::CapRights;
+
+// What an id opens: a mailbox, or nothing. Why nothing is not said: that would tell a forger what to mend.
+pub enum Opening {
+    Opens(usize),
+    Shut,
+}
+
+// `below` says that the id's index is below the table's size; where it is not, the endpoint is not looked at.
+pub fn open(below: bool, ep: Endpoint, cap: CapId, need: CapRights) -> Opening
+    ensures { λ r. ⌜ r ≡ openOf below ep cap need ⌝ }
+{
+    if !below {
+        return Opening::Shut;
+    }
+    if !ep.live {
+        return Opening::Shut;
+    }
+    if ep.generation != cap.generation() {
+        return Opening::Shut;
+    }
+    let rights = ep.rights;
+    if !rights.contains(need) {
+        return Opening::Shut;
+    }
+    Opening::Opens(ep.mailbox as usize)
+}
