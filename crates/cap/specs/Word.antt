@@ -1,6 +1,6 @@
 -- Document 01, "What must change shape": lists come as words, 0 vacant, 4,294,967,296 + raw present, others refused (21).
 use mathlib.Core.Bool.{Bool, true, false, _||_}
-use mathlib.Core.List.{List}
+use mathlib.Core.List.{List, [], _∷_}
 use Prim.Native.Nat.{ℕ, _+_, _/_, _%_}
 use lib.ListN.{getD, length}
 use lib.Dec.{eqb}
@@ -38,3 +38,8 @@ orVacant BadWord = vacant
 -- what a list holds at i: vacant past its end
 abbrev pub slotAt : List ℕ → ℕ → Slot
 slotAt l i = orVacant (readWord (getD l i 0))
+
+-- the slots that a list of words stands for
+unfoldable pub slotsOf : List ℕ → List Slot
+slotsOf [] = []
+slotsOf (w ∷ l) = orVacant (readWord w) ∷ slotsOf l
