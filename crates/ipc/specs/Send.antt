@@ -1,6 +1,6 @@
 -- Document 01, "Channels": send.
 use Prim.Native.Nat.{ℕ, _+_, _%_}
-use lib.Dec.{leb}
+use lib.Dec.{eqb}
 use Rattle.laws.specs.Pick.{pick}
 use Rattle.cap.specs.Rights.{sendRight}
 use Rattle.cap.specs.declared.CapId.{CapId}
@@ -26,5 +26,5 @@ queuedIn t k m = withMessage (withMailbox t k (filled (t .sizes .depth) (mailbox
 unfoldable pub sendOf : Table → CapId → Message → Sending
 sendOf t c m =
     opened (openingOf t c sendRight) (record { answer = BadCap; table = authorityRaised t }) (λ k.
-    pick (leb (t .sizes .depth) (mailboxAt t k .len)) (record { answer = Full; table = fullRaised t })
+    pick (eqb (mailboxAt t k .len) (t .sizes .depth)) (record { answer = Full; table = fullRaised t })
     (record { answer = Sent (mailboxAt t k .waiter); table = queuedIn t k m }))

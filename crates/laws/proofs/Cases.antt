@@ -3,6 +3,7 @@
 use mathlib.Core.Path.{_≡_, refl, sym, _∙_}
 use mathlib.Core.Bool.{Bool, true, false}
 use Prim.Native.Nat.{ℕ}
+use native.Mathlib.Omega.{arith}
 use borrow.Author.Tests.{lt-ltb, le-ltb, le-leb, lt-leb, eq-eqb, ne-eqb, not-true, not-false}
 use Rattle.laws.specs.Pick.{pick}
 use Rattle.laws.specs.Place.{found}
@@ -40,3 +41,7 @@ module _ {A : Type 0} (P : A → Type 0) where
   unfolding found
   all-found Nowhere a f n y = n refl
   all-found (At k) a f n y = y k refl
+
+-- a test does not go both ways
+pub not-both : (b : Bool) → b ≡ true → b ≡ false → ⊥
+not-both b p q = let z : _≡_ {A = ℕ} 0 1 = cc in omega arith

@@ -1,42 +1,37 @@
+use Rattle.laws.proofs.Cases.{cases}
+use Rattle.ipc.specs.Opening.{openOf}
 use borrow.Author.Needs.{needs}
 use Rattle.ipc.proofs.opening.open.Statement.{statement}
 use Rattle.ipc.proofs.opening.open.Tie as tie
-use Rattle.ipc.proofs.opening.open.Reads as reads
-use Rattle.ipc.proofs.opening.open.Lts as lts
-use Rattle.cap.proofs.CapId.generation.Reads as generation-reads
-use Rattle.cap.proofs.CapRights.contains.Reads as contains-reads
 
--- src/opening.rt:19:9
 returns : tie.Need-returns
-returns c = ?
+unfolding openOf
+returns c = search cases
 
--- src/opening.rt:22:9
 returns-2 : tie.Need-returns-2
-returns-2 c = ?
+unfolding openOf
+returns-2 c = search cases
 
--- src/opening.rt:24:25
 generation-requires : tie.Need-generation-requires
 generation-requires c κs = search needs
 
--- src/opening.rt:25:9
 returns-3 : tie.Need-returns-3
-returns-3 c = ?
+unfolding openOf
+returns-3 c = rw (← c .before .before .generation .ensures) (search cases)
 
--- src/opening.rt:28:9
 contains-requires : tie.Need-contains-requires
 contains-requires c κs = search needs
 
--- src/opening.rt:29:9
 returns-4 : tie.Need-returns-4
-returns-4 c = ?
+unfolding openOf
+returns-4 c = rw (← c .before .before .before .before .before .generation .ensures, ← c .before .contains .ensures) (search cases)
 
--- src/opening.rt:31:20
 cast-t9 : tie.Need-cast-t9
 cast-t9 c = search needs
 
--- src/opening.rt:15:1
 returns-5 : tie.Need-returns-5
-returns-5 c = ?
+unfolding openOf
+returns-5 c = rw (← c .before .before .before .before .before .before .generation .ensures, ← c .before .before .contains .ensures) (search cases)
 
 pub open-spec : {M : Type 1} → statement M
 open-spec =

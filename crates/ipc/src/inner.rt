@@ -1,0 +1,8 @@
+// The calls on a table that is known to be sound. Only proved code can call them: each caller shows `Sound` of the table that it lends.
+pub mod counts;
+pub mod queue;
+
+pub use counts::raised;
+pub use queue::park;
+pub use queue::send;
+pub use queue::try_recv;
