@@ -2,21 +2,22 @@
 use mathlib.Core.Path.{_≡_, refl, sym, ap, _∙_}
 use mathlib.Core.Bool.{Bool, true, false}
 use mathlib.Core.List.{List}
-use mathlib.Core.Logic.{_⊎_, ⊎-elim}
+use mathlib.Core.Logic.{_⊎_, inl, inr, ⊎-elim}
 use Prim.Native.Nat.{ℕ, _<_, _≤_, _%_}
 use native.Mathlib.Omega.{arith}
 use native.Mathlib.Nat.{mod-eq-of-lt}
 use borrow.Author.Tests.{ltb-true, ltb-false, eqb-true}
 use lib.Dec.{ltb, eqb}
 use Rattle.laws.specs.Pick.{pick}
-use Rattle.laws.proofs.Cases.{not-both}
+use Rattle.laws.proofs.Cases.{all-pick, not-both}
 use Rattle.cap.specs.Id.{indexOf, generationOf}
 use Rattle.cap.specs.Rights.{containsAll, sendRight, receiveRight}
 use Rattle.cap.specs.declared.CapId.{CapId}
 use Rattle.cap.specs.declared.CapRights.{CapRights}
+use Rattle.cap.specs.declared.slot.Slot.{Slot}
 use Rattle.ipc.specs.State.{endIn, endpointAt, endpointLive, mailboxAt, mailboxLive}
 use Rattle.ipc.specs.Sound.{Sound, InRange, Ring}
-use Rattle.ipc.specs.Opening.{openOf, openingOf, opened}
+use Rattle.ipc.specs.Opening.{openOf, openEither, openAny, openHold, openingOf, eitherOf, anyRightOf, holdOf, opened}
 use Rattle.ipc.specs.declared.state.Endpoint.{Endpoint}
 use Rattle.ipc.specs.declared.state.Mailbox.{Mailbox}
 use Rattle.ipc.specs.declared.state.Sizes.{Sizes}
@@ -42,19 +43,32 @@ unfolding opened
 all-opened P Shut a f n y = n refl
 all-opened P (Opens k) a f n y = y k refl
 
-masked : (es : List Endpoint) (i e : ℕ) (c : CapId) (need : CapRights) → e ≤ 64 → (b : Bool) → ltb i e ≡ b →
-    openOf b (endIn es (i % 64)) c need ≡ openOf b (endIn es i) c need
-unfolding openOf pick
-masked es i e c need h true p = let l : i < e = ltb-true i e p in let q : i % 64 ≡ i = omega arith in rw q
-masked es i e c need h false p = refl
+-- the code looks at the endpoint at the index modulo 64; past the table it looks at none, so that which one it is makes no difference
+module _ (f : Bool → Endpoint → Opening) (past : (x y : Endpoint) → f false x ≡ f false y) (es : List Endpoint) (e : ℕ) (few : e ≤ 64) where
+  masked : (i : ℕ) (b : Bool) → ltb i e ≡ b → f b (endIn es (i % 64)) ≡ f b (endIn es i)
+  masked i true p = let l : i < e = ltb-true i e p in let q : i % 64 ≡ i = omega arith in rw q
+  masked i false p = past (endIn es (i % 64)) (endIn es i)
 
--- what the code opens is what the rule asks: it looks at the endpoint at the index modulo 64, and past the table at none
-pub open-gave : (t : Table) (c : CapId) (need : CapRights) (i : ℕ) (q : Opening) → Sound t → i ≡ indexOf c →
-    q ≡ openOf (ltb i (t .sizes .endpoints)) (endIn (t .endpoints) (i % 64)) c need → q ≡ openingOf t c need
-unfolding openingOf
-open-gave t c need i q s e h =
-    h ∙ masked (t .endpoints) i (t .sizes .endpoints) c need (s .sizes .endpoints) _ refl
-    ∙ ap (λ (n : ℕ). openOf (ltb n (t .sizes .endpoints)) (endIn (t .endpoints) n) c need) e
+  looked : (i j : ℕ) (q : Opening) → i ≡ j → q ≡ f (ltb i e) (endIn es (i % 64)) → q ≡ f (ltb j e) (endIn es j)
+  looked i j q h g = g ∙ masked i _ refl ∙ ap (λ (n : ℕ). f (ltb n e) (endIn es n)) h
+
+-- what the code opens is what the rule asks
+module _ (t : Table) (i : ℕ) (q : Opening) (s : Sound t) where
+  pub open-gave : (c : CapId) (need : CapRights) → i ≡ indexOf c → q ≡ openOf (ltb i (t .sizes .endpoints)) (endIn (t .endpoints) (i % 64)) c need → q ≡ openingOf t c need
+  unfolding openingOf openOf pick
+  open-gave c need h g = looked (λ b e. openOf b e c need) (λ _ _. refl) (t .endpoints) (t .sizes .endpoints) (s .sizes .endpoints) i _ q h g
+
+  pub either-gave : (c : CapId) → i ≡ indexOf c → q ≡ openEither (ltb i (t .sizes .endpoints)) (endIn (t .endpoints) (i % 64)) c → q ≡ eitherOf t c
+  unfolding eitherOf openEither openOf opened pick
+  either-gave c h g = looked (λ b e. openEither b e c) (λ _ _. refl) (t .endpoints) (t .sizes .endpoints) (s .sizes .endpoints) i _ q h g
+
+  pub any-gave : (c : CapId) → i ≡ indexOf c → q ≡ openAny (ltb i (t .sizes .endpoints)) (endIn (t .endpoints) (i % 64)) c → q ≡ anyRightOf t c
+  unfolding anyRightOf openAny pick
+  any-gave c h g = looked (λ b e. openAny b e c) (λ _ _. refl) (t .endpoints) (t .sizes .endpoints) (s .sizes .endpoints) i _ q h g
+
+  pub hold-gave : (x : Slot) → i ≡ indexOf (x .id) → q ≡ openHold (ltb i (t .sizes .endpoints)) (endIn (t .endpoints) (i % 64)) x → q ≡ holdOf t x
+  unfolding holdOf openHold openOf pick
+  hold-gave x h g = looked (λ b e. openHold b e x) (λ _ _. refl) (t .endpoints) (t .sizes .endpoints) (s .sizes .endpoints) i _ q h g
 
 -- what opens: the tests that it passed, and the mailbox that it names
 pub record Opened (t : Table) (c : CapId) (need : CapRights) (k : ℕ) : Type 0 where
@@ -107,3 +121,50 @@ opens-live t c need k s e =
 
 pub opens-within : (t : Table) (c : CapId) (need : CapRights) (k : ℕ) → Sound t → openingOf t c need ≡ Opens k → Within t k
 opens-within t c need k s e = live-within t k s (opens-live t c need k s e)
+
+-- ---- the other openings
+-- either right: it opens by the one or by the other
+pub either-cases : (t : Table) (c : CapId) (k : ℕ) → eitherOf t c ≡ Opens k → (openingOf t c sendRight ≡ Opens k) ⊎ (openingOf t c receiveRight ≡ Opens k)
+unfolding eitherOf openEither openingOf opened
+either-cases t c k = by (openingOf t c sendRight)
+  where
+    by : (o : Opening) → opened o (openingOf t c receiveRight) Opens ≡ Opens k → (o ≡ Opens k) ⊎ (openingOf t c receiveRight ≡ Opens k)
+    by Shut e = inr e
+    by (Opens j) e = inl e
+
+pub either-within : (t : Table) (c : CapId) (k : ℕ) → Sound t → eitherOf t c ≡ Opens k → Within t k
+either-within t c k s e = ⊎-elim (opens-within t c sendRight k s) (opens-within t c receiveRight k s) (either-cases t c k e)
+
+-- a hold is of a present id that opens for send
+pub hold-opens : (t : Table) (x : Slot) (k : ℕ) → holdOf t x ≡ Opens k → (x .present ≡ true) × (openingOf t (x .id) sendRight ≡ Opens k)
+unfolding holdOf openHold openingOf
+hold-opens t x k =
+    all-pick (λ o. o ≡ Opens k → (x .present ≡ true) × (openOf (ltb (indexOf (x .id)) (t .sizes .endpoints)) (endpointAt t (indexOf (x .id))) (x .id) sendRight ≡ Opens k)) (x .present) _ _
+    (λ p e. (p, e)) (λ _ e. let z : _≡_ {A = ℕ} 0 1 = cc in absurd (omega arith))
+
+pub hold-within : (t : Table) (x : Slot) (k : ℕ) → Sound t → holdOf t x ≡ Opens k → Within t k
+hold-within t x k s e = opens-within t (x .id) sendRight k s (hold-opens t x k e .1)
+
+-- a revocation's endpoint is live, of the id's generation, and names the mailbox
+pub record AnyRight (t : Table) (c : CapId) (k : ℕ) : Type 0 where
+  pub below : indexOf c < t .sizes .endpoints
+  pub live : endpointLive t (indexOf c) ≡ true
+  pub generation : endpointAt t (indexOf c) .generation ≡ generationOf c
+  pub names : endpointAt t (indexOf c) .mailbox ≡ k
+
+any-tests : (b l g : Bool) (m k : ℕ) → pick b (pick l (pick g (Opens m) Shut) Shut) Shut ≡ Opens k → ((b ≡ true) × (l ≡ true)) × (g ≡ true) × (m ≡ k)
+unfolding pick
+any-tests true true true m k e = ((refl, refl), refl, (cc))
+any-tests true true false m k e = let z : _≡_ {A = ℕ} 0 1 = cc in absurd (omega arith)
+any-tests true false g m k e = let z : _≡_ {A = ℕ} 0 1 = cc in absurd (omega arith)
+any-tests false l g m k e = let z : _≡_ {A = ℕ} 0 1 = cc in absurd (omega arith)
+
+pub any-right-of : (t : Table) (c : CapId) (k : ℕ) → anyRightOf t c ≡ Opens k → AnyRight t c k
+unfolding anyRightOf openAny
+any-right-of t c k e =
+    let p = any-tests (ltb (indexOf c) (t .sizes .endpoints)) (endpointLive t (indexOf c)) (eqb (endpointAt t (indexOf c) .generation) (generationOf c)) _ k e in
+    record { below = ltb-true _ _ (p .0 .0); live = p .0 .1; generation = eqb-true _ _ (p .1); names = p .2 }
+
+pub any-within : (t : Table) (c : CapId) (k : ℕ) → Sound t → anyRightOf t c ≡ Opens k → Within t k
+any-within t c k s e =
+    let o = any-right-of t c k e in live-within t k s (rw (← o .names) (s .names (indexOf c) (o .live) .live))

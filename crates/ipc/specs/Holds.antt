@@ -5,14 +5,11 @@ use Prim.Native.Nat.{ℕ, _-_}
 use lib.Dec.{eqb}
 use lib.ListN.{getD}
 use Rattle.laws.specs.Pick.{pick}
-use Rattle.cap.specs.Rights.{sendRight}
 use Rattle.cap.specs.Word.{wordsRead, slotsOf}
 use Rattle.cap.specs.declared.slot.Slot.{Slot}
 use Rattle.ipc.specs.State.{nobody, mailboxAt, withMailbox, withHolders, withWaiter}
 use Rattle.ipc.specs.Counts.{raised}
-use Rattle.ipc.specs.Opening.{openingOf, opened}
-use Rattle.ipc.specs.declared.opening.Opening.{Opening}
-use Rattle.ipc.specs.declared.opening.Opening.the-variants.{Shut}
+use Rattle.ipc.specs.Opening.{holdOf, opened}
 use Rattle.ipc.specs.declared.state.Mailbox.{Mailbox}
 use Rattle.ipc.specs.declared.state.Waiter.{Waiter}
 use Rattle.ipc.specs.declared.state.Table.{Table}
@@ -22,10 +19,6 @@ use Rattle.ipc.specs.declared.answers.RegisterAnswer.the-variants.{Regis
 use Rattle.ipc.specs.declared.answers.Releasing.{Releasing}
 use Rattle.ipc.specs.declared.answers.ReleaseAnswer.{ReleaseAnswer}
 use Rattle.ipc.specs.declared.answers.ReleaseAnswer.the-variants.{Released}
-
--- the mailbox of which a slot holds the send end, if it holds one
-unfoldable pub holdOf : Table → Slot → Opening
-holdOf t s = pick (s .present) (openingOf t (s .id) sendRight) Shut
 
 -- ---- register
 -- one hold more, stopping at 4,294,967,295

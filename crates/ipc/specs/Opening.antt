@@ -7,6 +7,7 @@ use Rattle.cap.specs.Id.{indexOf, generationOf}
 use Rattle.cap.specs.Rights.{containsAll, sendRight, receiveRight}
 use Rattle.cap.specs.declared.CapId.{CapId}
 use Rattle.cap.specs.declared.CapRights.{CapRights}
+use Rattle.cap.specs.declared.slot.Slot.{Slot}
 use Rattle.ipc.specs.State.{endpointAt}
 use Rattle.ipc.specs.declared.state.Endpoint.{Endpoint}
 use Rattle.ipc.specs.declared.state.Table.{Table}
@@ -24,15 +25,33 @@ openOf below e c need =
     Shut)
     Shut
 
--- what an id opens in a table, where the right `need` is asked of it
-unfoldable pub openingOf : Table → CapId → CapRights → Opening
-openingOf t c need = openOf (ltb (indexOf c) (t .sizes .endpoints)) (endpointAt t (indexOf c)) c need
+-- a live endpoint of that generation, either right
+unfoldable pub openAny : Bool → Endpoint → CapId → Opening
+openAny below e c =
+    pick below (pick (e .live) (pick (eqb (e .generation) (generationOf c)) (Opens (e .mailbox)) Shut) Shut) Shut
 
 -- what follows from an opening: one thing where it is shut, another at the mailbox that it opens
 unfoldable pub opened : {A : Type 0} → Opening → A → (ℕ → A) → A
 opened Shut a f = a
 opened (Opens k) a f = f k
 
--- an opening by either right, send or receive
+-- an opening by send, or else by receive
+unfoldable pub openEither : Bool → Endpoint → CapId → Opening
+openEither below e c = opened (openOf below e c sendRight) (openOf below e c receiveRight) Opens
+
+-- the send end that a slot holds: a vacant slot opens nothing
+unfoldable pub openHold : Bool → Endpoint → Slot → Opening
+openHold below e s = pick (s .present) (openOf below e (s .id) sendRight) Shut
+
+-- what an id opens in a table: with the right `need`, by either right, as a revocation asks, and as a hold
+unfoldable pub openingOf : Table → CapId → CapRights → Opening
+openingOf t c need = openOf (ltb (indexOf c) (t .sizes .endpoints)) (endpointAt t (indexOf c)) c need
+
 unfoldable pub eitherOf : Table → CapId → Opening
-eitherOf t c = opened (openingOf t c sendRight) (openingOf t c receiveRight) Opens
+eitherOf t c = openEither (ltb (indexOf c) (t .sizes .endpoints)) (endpointAt t (indexOf c)) c
+
+unfoldable pub anyRightOf : Table → CapId → Opening
+anyRightOf t c = openAny (ltb (indexOf c) (t .sizes .endpoints)) (endpointAt t (indexOf c)) c
+
+unfoldable pub holdOf : Table → Slot → Opening
+holdOf t s = openHold (ltb (indexOf (s .id)) (t .sizes .endpoints)) (endpointAt t (indexOf (s .id))) s

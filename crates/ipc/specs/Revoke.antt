@@ -2,31 +2,19 @@
 use mathlib.Core.Bool.{Bool, false, _&&_}
 use mathlib.Core.List.{List, map}
 use Prim.Native.Nat.{ℕ, zero, suc, _+_, _*_}
-use lib.Dec.{ltb, eqb}
+use lib.Dec.{eqb}
 use lib.ListN.{set}
 use Rattle.laws.specs.Pick.{pick}
-use Rattle.cap.specs.Id.{indexOf, generationOf}
 use Rattle.cap.specs.declared.CapId.{CapId}
-use Rattle.ipc.specs.State.{freshMailbox, freshMessage, endpointAt, mailboxAt}
-use Rattle.ipc.specs.Opening.{opened}
+use Rattle.ipc.specs.State.{freshMailbox, freshMessage, mailboxAt}
+use Rattle.ipc.specs.Opening.{opened, anyRightOf}
 use Rattle.ipc.specs.Counts.{authorityRaised}
 use Rattle.ipc.specs.declared.state.Endpoint.{Endpoint}
 use Rattle.ipc.specs.declared.state.Message.{Message}
 use Rattle.ipc.specs.declared.state.Table.{Table}
-use Rattle.ipc.specs.declared.opening.Opening.{Opening}
-use Rattle.ipc.specs.declared.opening.Opening.the-variants.{Opens, Shut}
 use Rattle.ipc.specs.declared.answers.Revoking.{Revoking}
 use Rattle.ipc.specs.declared.answers.RevokeAnswer.{RevokeAnswer}
 use Rattle.ipc.specs.declared.answers.RevokeAnswer.the-variants.{Revoked, BadCap}
-
--- revocation needs a live endpoint of that generation, either right
-unfoldable pub anyRightOf : Table → CapId → Opening
-anyRightOf t c =
-    pick (ltb (indexOf c) (t .sizes .endpoints))
-    (pick (endpointAt t (indexOf c) .live)
-    (pick (eqb (endpointAt t (indexOf c) .generation) (generationOf c)) (Opens (endpointAt t (indexOf c) .mailbox)) Shut)
-    Shut)
-    Shut
 
 -- an end of mailbox k dies, and keeps its generation, its rights and its mailbox; other endpoints stay
 abbrev pub deadEndpoint : Endpoint → Endpoint
@@ -52,7 +40,7 @@ withoutChannel t k =
       refusals = t .refusals;
     }
 
--- the waiter is answered
+-- revocation needs a live endpoint of that generation, either right; the waiter is answered
 unfoldable pub revokeOf : Table → CapId → Revoking
 revokeOf t c =
     opened (anyRightOf t c) (record { answer = BadCap; table = authorityRaised t }) (λ k.

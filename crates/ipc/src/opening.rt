@@ -1,9 +1,10 @@
 // Whether an id opens an endpoint: the one door to a mailbox.
 ghost use mathlib.Core.Path.{_≡_};
-ghost use Rattle.ipc.specs.Opening.{openOf};
+ghost use Rattle.ipc.specs.Opening.{openOf, openEither, openAny, openHold};
 use crate::state::Endpoint;
 use cap::CapId;
 use cap::CapRights;
+use cap::Slot;
 
 // What an id opens: a mailbox, or nothing. Why nothing is not said: that would tell a forger what to mend.
 pub enum Opening {
@@ -29,4 +30,41 @@ pub fn open(below: bool, ep: Endpoint, cap: CapId, need: CapRights) -> Opening
         return Opening::Shut;
     }
     Opening::Opens(ep.mailbox as usize)
+}
+
+// By either right. No end has both, so asking for send and receive together would open nothing.
+pub fn open_either(below: bool, ep: Endpoint, cap: CapId) -> Opening
+    ensures { λ r. ⌜ r ≡ openEither below ep cap ⌝ }
+{
+    let Opening::Opens(k) = open(below, ep, cap, CapRights::SEND) else {
+        return open(below, ep, cap, CapRights::RECV);
+    };
+    Opening::Opens(k)
+}
+
+// By a live endpoint of the id's generation, whatever its right.
+pub fn open_any(below: bool, ep: Endpoint, cap: CapId) -> Opening
+    ensures { λ r. ⌜ r ≡ openAny below ep cap ⌝ }
+{
+    if !below {
+        return Opening::Shut;
+    }
+    if !ep.live {
+        return Opening::Shut;
+    }
+    if ep.generation != cap.generation() {
+        return Opening::Shut;
+    }
+    Opening::Opens(ep.mailbox as usize)
+}
+
+// The send end that a slot holds, if it holds one.
+pub fn open_hold(below: bool, ep: Endpoint, slot: Slot) -> Opening
+    ensures { λ r. ⌜ r ≡ openHold below ep slot ⌝ }
+{
+    if !slot.present {
+        return Opening::Shut;
+    }
+    let id = slot.id;
+    open(below, ep, id, CapRights::SEND)
 }

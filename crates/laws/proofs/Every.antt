@@ -8,6 +8,7 @@ use native.Mathlib.Numerals.{add-one}
 use native.Mathlib.Omega.{arith}
 use Rattle.laws.specs.Pick.{pick}
 use Rattle.laws.specs.Every.{every, some, count}
+use Rattle.laws.proofs.Cases.{all-pick}
 
 pub and-left : (a b : Bool) → (a && b) ≡ true → a ≡ true
 and-left true b h = refl
@@ -45,3 +46,26 @@ every-step f i ok v p q = simp (p, q, add-one)
 
 pub every-done : (f : ℕ → Bool) (i n : ℕ) (ok : Bool) → i ≤ n → n ≤ i → ok ≡ every f i → ok ≡ every f n
 every-done f i n ok l g p = let e : i ≡ n = omega arith in rw e at p
+
+-- a loop `while i < n { if f(i) { c += 1; } i += 1; }`: before it, a turn either way, and the end
+pub count-none : (f : ℕ → Bool) → 0 ≡ count f 0
+unfolding count
+count-none f = refl
+
+pub count-yes : (f : ℕ → Bool) (i c : ℕ) → c ≡ count f i → f i ≡ true → c + 1 ≡ count f (i + 1)
+unfolding count pick
+count-yes f i c p q = rw (add-one i, q, ← p)
+
+pub count-no : (f : ℕ → Bool) (i c : ℕ) → c ≡ count f i → f i ≡ false → c ≡ count f (i + 1)
+unfolding count pick
+count-no f i c p q = rw (add-one i, q) p
+
+pub count-done : (f : ℕ → Bool) (i n c : ℕ) → i ≤ n → n ≤ i → c ≡ count f i → c ≡ count f n
+count-done f i n c l g p = let e : i ≡ n = omega arith in rw e at p
+
+-- it holds at no more indices than there are
+pub count-most : (f : ℕ → Bool) (n : ℕ) → count f n ≤ n
+unfolding count
+count-most f zero = omega arith
+count-most f (suc n) =
+    all-pick (λ k. k ≤ suc n) (f n) (count f n + 1) (count f n) (λ _. omega (arith, count-most f n)) (λ _. omega (arith, count-most f n))

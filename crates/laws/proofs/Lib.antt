@@ -2,4 +2,5 @@ pub mod Cases
 pub mod Search
 pub mod Every
 pub mod Lists
+pub mod Through
 pub mod Same

@@ -12,7 +12,7 @@ use Rattle.ipc.proofs.inner.queue.send.Tie as tie
 
 -- what `open` gave is what the rule asks
 gave : (c : tie.After-open) → let a = c .before .before .before .args in c .open .result ≡ openingOf (a .t1) (a .cap) sendRight
-gave c = open-gave _ _ _ _ _ (c .before .before .before .pre) (c .before .before .index .ensures) (c .open .ensures)
+gave c = open-gave _ _ _ (c .before .before .before .pre) _ _ (c .before .before .index .ensures) (c .open .ensures)
 
 -- what opened is a live mailbox within the arrays
 inside : (c : tie.After-known-told) → Within (c .before .before .before .before .before .before .args .t1) (c .before .k .given .0 .0)
