@@ -1,1 +1,3 @@
 pub mod Openings
+pub mod Keeps
+pub mod KeepsCalls

@@ -8,6 +8,7 @@ use native.Mathlib.Omega.{arith}
 use native.Mathlib.Nat.{mod-eq-of-lt}
 use borrow.Author.Tests.{ltb-true, ltb-false, eqb-true}
 use lib.Dec.{ltb, eqb}
+use lib.Seq.{getD-set-same}
 use Rattle.laws.specs.Pick.{pick}
 use Rattle.laws.proofs.Cases.{all-pick, not-both}
 use Rattle.cap.specs.Id.{indexOf, generationOf}
@@ -15,7 +16,7 @@ use Rattle.cap.specs.Rights.{containsAll, sendRight, receiveRight}
 use Rattle.cap.specs.declared.CapId.{CapId}
 use Rattle.cap.specs.declared.CapRights.{CapRights}
 use Rattle.cap.specs.declared.slot.Slot.{Slot}
-use Rattle.ipc.specs.State.{endIn, endpointAt, endpointLive, mailboxAt, mailboxLive}
+use Rattle.ipc.specs.State.{freshMailbox, withMailbox, endIn, endpointAt, endpointLive, mailboxAt, mailboxLive}
 use Rattle.ipc.specs.Sound.{Sound, InRange, Ring}
 use Rattle.ipc.specs.Opening.{openOf, openEither, openAny, openHold, openingOf, eitherOf, anyRightOf, holdOf, opened}
 use Rattle.ipc.specs.declared.state.Endpoint.{Endpoint}
@@ -100,6 +101,14 @@ live-below t k s l = by (ltb k (t .sizes .mailboxes)) refl
     by : (b : Bool) → ltb k (t .sizes .mailboxes) ≡ b → k < t .sizes .mailboxes
     by true p = ltb-true _ _ p
     by false p = absurd (not-both (mailboxLive t k) l (ap (λ (b : Mailbox). b .live) (s .mailboxes-past k (ltb-false _ _ p))))
+
+-- a live mailbox that is replaced stands where it stood
+pub box-same : (t : Table) (k : ℕ) (b : Mailbox) → Sound t → mailboxLive t k ≡ true → mailboxAt (withMailbox t k b) k ≡ b
+box-same t k b s l =
+    let h = live-below t k s l in
+    let z = s .sizes in
+    let n = s .shape .mailboxes in
+    getD-set-same (t .mailboxes) k b freshMailbox (omega arith)
 
 -- mailbox k is a live one, and what a call on it relies on
 pub record Within (t : Table) (k : ℕ) : Type 0 where

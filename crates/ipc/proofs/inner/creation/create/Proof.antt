@@ -96,35 +96,35 @@ mailbox-requires c κs = search needs
 
 -- src/inner/creation.rt:106:5
 mul-t17 : tie.Need-mul-t17
-mul-t17 c = omega (arith, box (c .before .before .before .before .before .before .before .before .before ))
+mul-t17 c = omega (arith, box (c .before .before .before .before .before .before .before .before .before))
 
 -- src/inner/creation.rt:106:5
 element-set-from-t : tie.Need-element-set-from-t
-element-set-from-t c = omega (arith, box (c .before .before .before .before .before .before .before .before .before ))
+element-set-from-t c = omega (arith, box (c .before .before .before .before .before .before .before .before .before))
 
 -- src/inner/creation.rt:107:22
 endpoint-requires : tie.Need-endpoint-requires
-endpoint-requires c κs = omega (arith, box (c .before .before .before .before .before .before .before .before .before ))
+endpoint-requires c κs = omega (arith, box (c .before .before .before .before .before .before .before .before .before))
 
 -- src/inner/creation.rt:107:5
 mul-t : tie.Need-mul-t
-mul-t c = omega (arith, sender (c .before .before .before .before .before .before ))
+mul-t c = omega (arith, sender (c .before .before .before .before .before .before))
 
 -- src/inner/creation.rt:107:5
 element-set-from-t-2 : tie.Need-element-set-from-t-2
-element-set-from-t-2 c = omega (arith, sender (c .before .before .before .before .before .before ))
+element-set-from-t-2 c = omega (arith, sender (c .before .before .before .before .before .before))
 
 -- src/inner/creation.rt:108:22
 endpoint-requires-2 : tie.Need-endpoint-requires-2
-endpoint-requires-2 c κs = omega (arith, box (c .before .before .before .before .before .before .before .before .before .before ))
+endpoint-requires-2 c κs = omega (arith, box (c .before .before .before .before .before .before .before .before .before .before))
 
 -- src/inner/creation.rt:108:5
 mul-t17-2 : tie.Need-mul-t17-2
-mul-t17-2 c = omega (arith, receiver (c .before .before .before ))
+mul-t17-2 c = omega (arith, receiver (c .before .before .before))
 
 -- src/inner/creation.rt:108:5
 element-set-from-t-3 : tie.Need-element-set-from-t-3
-element-set-from-t-3 c = omega (arith, receiver (c .before .before .before ))
+element-set-from-t-3 c = omega (arith, receiver (c .before .before .before))
 
 -- src/inner/creation.rt:109:18
 next-generation-requires : tie.Need-next-generation-requires
@@ -132,7 +132,7 @@ next-generation-requires c κs = search needs
 
 -- src/inner/creation.rt:111:26
 cast-new : tie.Need-cast-new
-cast-new c = omega (arith, sender (c .before .before .before .before .before .before .before .before ))
+cast-new c = omega (arith, sender (c .before .before .before .before .before .before .before .before))
 
 -- src/inner/creation.rt:111:15
 new-requires : tie.Need-new-requires
@@ -140,7 +140,7 @@ new-requires c κs = search needs
 
 -- src/inner/creation.rt:112:26
 cast-new-2 : tie.Need-cast-new-2
-cast-new-2 c = omega (arith, receiver (c .before .before .before .before .before ))
+cast-new-2 c = omega (arith, receiver (c .before .before .before .before .before))
 
 -- src/inner/creation.rt:112:15
 new-requires-2 : tie.Need-new-requires-2

@@ -20,7 +20,7 @@ gave c = either-gave _ _ _ (c .before .before .before .pre) _ (c .before .before
 
 -- what opened is a live mailbox within the arrays
 inside : (c : tie.After-known-told) → Within (c .before .before .before .before .before .before .args .t1) (c .before .k .given .0 .0)
-inside c = either-within _ _ _ (c .before .before .before .before .before .before .pre) (sym (gave (c .before .before .before )) ∙ c .before .k .given .1)
+inside c = either-within _ _ _ (c .before .before .before .before .before .before .pre) (sym (gave (c .before .before .before)) ∙ c .before .k .given .1)
 
 -- src/inner/looks.rt:20:13
 index-requires : tie.Need-index-requires
@@ -65,7 +65,7 @@ element-copy-out-b c = omega (arith, inside c)
 
 -- src/inner/looks.rt:27:9
 returns-2 : tie.Need-returns-2
-returns-2 c = absurd (not-both _ (inside (c .before .before .before ) .live) (not-true _ (c .if1 .taken)))
+returns-2 c = absurd (not-both _ (inside (c .before .before .before) .live) (not-true _ (c .if1 .taken)))
 
 -- src/inner/looks.rt:16:1
 returns-3 : tie.Need-returns-3

@@ -20,7 +20,7 @@ gave c = open-gave _ _ _ (c .before .before .before .pre) _ _ (c .before .before
 
 -- what opened is a live mailbox within the arrays
 inside : (c : tie.After-known-told) → Within (c .before .before .before .before .before .before .args .t1) (c .before .k .given .0 .0)
-inside c = opens-within _ _ _ _ (c .before .before .before .before .before .before .pre) (sym (gave (c .before .before .before )) ∙ c .before .k .given .1)
+inside c = opens-within _ _ _ _ (c .before .before .before .before .before .before .pre) (sym (gave (c .before .before .before)) ∙ c .before .k .given .1)
 
 -- src/inner/looks.rt:37:13
 index-requires : tie.Need-index-requires
