@@ -3,6 +3,7 @@ pub mod Sound
 pub mod Opening
 pub mod Counts
 pub mod Make
+pub mod SoundTest
 pub mod Create
 pub mod Send
 pub mod Receive

@@ -2,4 +2,5 @@
 pub mod answers;
 pub mod inner;
 pub mod opening;
+pub mod sound;
 pub mod state;

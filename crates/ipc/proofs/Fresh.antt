@@ -1,0 +1,70 @@
+-- Sizes in range, as a test and as a fact; and a fresh table of such sizes is sound. Assumes nothing.
+use mathlib.Core.Path.{_≡_, refl, sym, _∙_, ap}
+use mathlib.Core.Bool.{Bool, true, false, _&&_}
+use Prim.Native.Nat.{ℕ, _≤_, _<_, _+_, _*_}
+use native.Mathlib.Omega.{arith}
+use borrow.Author.Tests.{leb-true, le-leb}
+use lib.Dec.{leb}
+use lib.ListN.{getD, replicate}
+use Rattle.laws.proofs.Every.{and-left, and-right, and-both}
+use Rattle.laws.proofs.Lists.{all-replicate}
+use Rattle.ipc.specs.State.{Shape, freshMailbox, freshEndpoint, freshMessage, boxIn, endIn}
+use Rattle.ipc.specs.Make.{freshOf, inRange}
+use Rattle.ipc.specs.Sound.{InRange, Sound}
+use Rattle.ipc.specs.declared.state.Sizes.{Sizes}
+use Rattle.ipc.specs.declared.state.Endpoint.{Endpoint}
+use Rattle.ipc.specs.declared.state.Mailbox.{Mailbox}
+use Rattle.ipc.proofs.Last.{true-false}
+
+pub in-range-of : (z : Sizes) → inRange z ≡ true → InRange z
+in-range-of z h =
+    let m = leb (z .mailboxes) 32 in
+    let e = leb (z .endpoints) 64 in
+    let s = leb 1 (z .depth) in
+    let three = and-left (m && e && s) (leb (z .depth) 8) h in
+    let two = and-left (m && e) s three in
+    record {
+      mailboxes = leb-true _ _ (and-left m e two);
+      endpoints = leb-true _ _ (and-right m e two);
+      deep = leb-true _ _ (and-right (m && e) s three);
+      depth = leb-true _ _ (and-right (m && e && s) (leb (z .depth) 8) h);
+    }
+
+pub of-in-range : (z : Sizes) → InRange z → inRange z ≡ true
+of-in-range z r = simp (le-leb _ _ (r .mailboxes), le-leb _ _ (r .endpoints), le-leb _ _ (r .deep), le-leb _ _ (r .depth))
+
+boxes-fresh : (k : ℕ) → boxIn (replicate 32 freshMailbox) k ≡ freshMailbox
+boxes-fresh = all-replicate (λ b. b ≡ freshMailbox) 32 freshMailbox refl
+
+ends-fresh : (i : ℕ) → endIn (replicate 64 freshEndpoint) i ≡ freshEndpoint
+ends-fresh = all-replicate (λ e. e ≡ freshEndpoint) 64 freshEndpoint refl
+
+places-fresh : (i : ℕ) → getD (replicate 256 freshMessage) i freshMessage ≡ freshMessage
+places-fresh = all-replicate (λ m. m ≡ freshMessage) 256 freshMessage refl
+
+dead-box : (k : ℕ) → boxIn (replicate 32 freshMailbox) k .live ≡ true → ⊥
+dead-box k v = true-false v (ap (λ (b : Mailbox). b .live) (boxes-fresh k))
+
+dead-end : (i : ℕ) → endIn (replicate 64 freshEndpoint) i .live ≡ true → ⊥
+dead-end i v = true-false v (ap (λ (e : Endpoint). e .live) (ends-fresh i))
+
+nobody-waits : (k : ℕ) → boxIn (replicate 32 freshMailbox) k .waiter .present ≡ true → ⊥
+nobody-waits k v = true-false v (ap (λ (b : Mailbox). b .waiter .present) (boxes-fresh k))
+
+pub fresh-sound : (z : Sizes) → InRange z → Sound (freshOf z)
+fresh-sound z r =
+    record {
+      shape = record { endpoints = refl; mailboxes = refl; messages = refl };
+      sizes = r;
+      mailboxes-past = λ k _. boxes-fresh k;
+      endpoints-past = λ i _. ends-fresh i;
+      places-past = λ k p _ _. places-fresh (k * 8 + p);
+      next = λ e. omega arith;
+      dead = λ k _. boxes-fresh k;
+      dead-places = λ k p _ _. places-fresh (k * 8 + p);
+      ends = λ k v. absurd (dead-box k v);
+      ring = λ k v. absurd (dead-box k v);
+      names = λ i v. absurd (dead-end i v);
+      waits-empty = λ k v. absurd (nobody-waits k v);
+      waits-held = λ k v. absurd (nobody-waits k v);
+    }

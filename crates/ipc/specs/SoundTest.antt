@@ -1,0 +1,108 @@
+-- Document 01, "A channel table is sound when ..", as a test: what is computed of a table before a call. That it says what `Sound` says is
+-- proved in proofs/Decide.antt.
+use mathlib.Core.Path.{_≡_}
+use mathlib.Core.Bool.{Bool, not, _&&_, _||_}
+use mathlib.Core.List.{List}
+use Prim.Native.Nat.{ℕ, zero, suc, _+_, _<_, _%_, _/_}
+use lib.Dec.{eqb, ltb, leb}
+use lib.ListN.{getD}
+use Rattle.laws.specs.Pick.{pick}
+use Rattle.laws.specs.Every.{every}
+use Rattle.cap.specs.Rights.{sendRight, receiveRight}
+use Rattle.cap.specs.declared.CapRights.{CapRights}
+use Rattle.ipc.specs.State.{freshMessage, endIn, boxIn, endpointAt, mailboxAt, mailboxLive, endLive, boxLive}
+use Rattle.ipc.specs.Make.{inRange}
+use Rattle.ipc.specs.declared.state.Endpoint.{Endpoint}
+use Rattle.ipc.specs.declared.state.Mailbox.{Mailbox}
+use Rattle.ipc.specs.declared.state.Message.{Message}
+use Rattle.ipc.specs.declared.state.Sizes.{Sizes}
+use Rattle.ipc.specs.declared.state.Waiter.{Waiter}
+use Rattle.ipc.specs.declared.state.Table.{Table}
+
+-- ---- as when fresh
+abbrev pub isFreshMessage : Message → Bool
+isFreshMessage m = eqb (m .tag) 0 && eqb (m .a) 0 && eqb (m .b) 0
+
+abbrev pub isFreshEndpoint : Endpoint → Bool
+isFreshEndpoint e = not (e .live) && eqb (e .generation) 0 && eqb (e .rights .bits) 0 && eqb (e .mailbox) 0
+
+abbrev pub isNobody : Waiter → Bool
+isNobody w = not (w .present) && eqb (w .task .slot) 0 && eqb (w .task .epoch) 0
+
+abbrev pub isFreshMailbox : Mailbox → Bool
+isFreshMailbox b =
+    not (b .live) && eqb (b .head) 0 && eqb (b .tail) 0 && eqb (b .len) 0 && isNobody (b .waiter) && eqb (b .«send_holders») 0 && not (b .«auto_reap»)
+
+-- ---- message places
+-- as when fresh, or place p of the ring of a live mailbox, of depth d
+abbrev pub placeTest : Message → Bool → ℕ → ℕ → Bool
+placeTest m live p d = isFreshMessage m || live && ltb p d
+
+-- place i of all: place i % 8 of mailbox i / 8
+unfoldable pub placeOk : Table → ℕ → Bool
+placeOk t i = placeTest (getD (t .messages) i freshMessage) (mailboxLive t (i / 8)) (i % 8) (t .sizes .depth)
+
+-- ---- the two ends of a mailbox
+-- the endpoint is live, has the right w alone and names mailbox k
+abbrev pub isEnd : Endpoint → CapRights → ℕ → Bool
+isEnd e w k = e .live && eqb (e .rights .bits) (w .bits) && eqb (e .mailbox) k
+
+-- the last endpoint below n that is such an end of mailbox k, or 64 where there is none
+unfoldable pub lastEnd : List Endpoint → CapRights → ℕ → ℕ → ℕ
+lastEnd es w k zero = 64
+lastEnd es w k (suc n) = pick (isEnd (endIn es n) w k) n (lastEnd es w k n)
+
+-- the last of all 64
+abbrev pub sendEnd : Table → ℕ → ℕ
+sendEnd t k = lastEnd (t .endpoints) sendRight k 64
+
+abbrev pub recvEnd : Table → ℕ → ℕ
+recvEnd t k = lastEnd (t .endpoints) receiveRight k 64
+
+-- at each mailbox's place stands its last end with the right w below n
+pub record Remembers (es : List Endpoint) (w : CapRights) (n : ℕ) (at : List ℕ) : Type 0 where
+  pub last : (k : ℕ) → k < 32 → getD at k 0 ≡ lastEnd es w k n
+
+-- ---- endpoints
+-- a dead one is below the size or fresh; a live one is below the size, names a live mailbox, and is its last end of one right: there is
+-- no second
+unfoldable pub endpointTest : Endpoint → Bool → Bool → Bool → Bool → Bool
+endpointTest e below named send recv =
+    pick (e .live)
+    (below && named && (eqb (e .rights .bits) (sendRight .bits) && send || eqb (e .rights .bits) (receiveRight .bits) && recv))
+    (below || isFreshEndpoint e)
+
+abbrev pub endpointTestAt : Table → Endpoint → ℕ → Bool
+endpointTestAt t e i =
+    endpointTest e (ltb i (t .sizes .endpoints)) (mailboxLive t (e .mailbox)) (eqb (sendEnd t (e .mailbox)) i) (eqb (recvEnd t (e .mailbox)) i)
+
+unfoldable pub endpointOk : Table → ℕ → Bool
+endpointOk t i = endpointTestAt t (endpointAt t i) i
+
+-- ---- mailboxes
+-- a ring of depth d
+abbrev pub ringTest : ℕ → Mailbox → Bool
+ringTest d b = leb (b .len) d && ltb (b .head) d && ltb (b .tail) d && eqb (b .head) ((b .tail + b .len) % d)
+
+-- a waiter means length 0, and on an ephemeral mailbox holds above 0
+abbrev pub waiterTest : Mailbox → Bool
+waiterTest b = not (b .waiter .present) || eqb (b .len) 0 && (not (b .«auto_reap») || ltb 0 (b .«send_holders»))
+
+-- s and r are endpoints, and their generations g and h one, and not 0
+abbrev pub endsTest : ℕ → ℕ → ℕ → ℕ → Bool
+endsTest s r g h = ltb s 64 && ltb r 64 && eqb g h && not (eqb g 0)
+
+-- a dead one is fresh; a live one is below the size, has both ends, a ring, and no waiter that it should not have
+unfoldable pub mailboxTest : Mailbox → Bool → Bool → ℕ → Bool
+mailboxTest b below ends d = pick (b .live) (below && ends && ringTest d b && waiterTest b) (isFreshMailbox b)
+
+abbrev pub endsTestAt : Table → ℕ → ℕ → Bool
+endsTestAt t s r = endsTest s r (endpointAt t s .generation) (endpointAt t r .generation)
+
+unfoldable pub mailboxOk : Table → ℕ → Bool
+mailboxOk t k = mailboxTest (mailboxAt t k) (ltb k (t .sizes .mailboxes)) (endsTestAt t (sendEnd t k) (recvEnd t k)) (t .sizes .depth)
+
+-- ---- the table
+unfoldable pub soundTest : Table → Bool
+soundTest t =
+    inRange (t .sizes) && (not (eqb (t .«next_gen») 0) && every (placeOk t) 256 && every (endpointOk t) 64 && every (mailboxOk t) 32)

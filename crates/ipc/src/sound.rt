@@ -1,0 +1,213 @@
+// Whether a channel table that was lent is one that the calls keep: the test before every call, refusal 27.
+ghost use mathlib.Core.Path.{_≡_};
+ghost use Prim.Native.Nat.{ℕ, _<_, _≤_};
+ghost use lib.ListN.{getD};
+ghost use Rattle.cap.specs.Rights.{sendRight, receiveRight};
+ghost use Rattle.laws.specs.Every.{every};
+ghost use Rattle.laws.specs.Pick.{pick};
+ghost use Rattle.ipc.specs.Make.{inRange};
+ghost use Rattle.ipc.specs.SoundTest.{isEnd, isFreshEndpoint, isFreshMailbox, placeTest, placeOk, Remembers, endpointTest, endpointOk, ringTest, waiterTest, endsTest, mailboxTest, mailboxOk, soundTest};
+use crate::state::Endpoint;
+use crate::state::Mailbox;
+use crate::state::Message;
+use crate::state::Sizes;
+use crate::state::Table;
+
+pub fn in_range(z: Sizes) -> bool
+    ensures { λ r. ⌜ r ≡ inRange z ⌝ }
+{
+    (z.mailboxes <= 32) & (z.endpoints <= 64) & (1 <= z.depth) & (z.depth <= 8)
+}
+
+fn place_test(m: Message, live: bool, p: usize, d: usize) -> bool
+    ensures { λ r. ⌜ r ≡ placeTest m live p d ⌝ }
+{
+    ((m.tag == 0) & (m.a == 0) & (m.b == 0)) | (live & (p < d))
+}
+
+fn places_ok(t: Table) -> bool
+    ensures { λ r. ⌜ r ≡ every (placeOk t) 256 ⌝ }
+{
+    let d = t.sizes.depth;
+    let mut ok = true;
+    let mut i: usize = 0;
+    while i < 256 {
+        let m = t.messages[i];
+        let b = t.mailboxes[i / 8];
+        ok = ok & place_test(m, b.live, i % 8, d);
+        i += 1;
+    }
+    ok
+}
+
+// For each mailbox the place of an endpoint, or 64.
+struct Last {
+    at: [u8; 32],
+}
+
+struct Ends {
+    send: Last,
+    recv: Last,
+}
+
+fn noted(s: Last, e: Endpoint, w: u8, i: usize) -> Last
+    requires { ⌜ i < 64 ⌝ }
+    ensures { λ r. ⌜ ((k : ℕ) → k < 32 → getD (r .at) k 0 ≡ pick (isEnd e (record { bits = w }) k) i (getD (s .at) k 0)) ⌝ }
+{
+    if e.live & (e.rights.bits == w) & (e.mailbox < 32) {
+        let mut o = s;
+        let k = e.mailbox as usize;
+        o.at[k] = i as u8;
+        return o;
+    }
+    s
+}
+
+// The last live end of each right that each mailbox has. One pass: an end that is not the last is a second.
+fn last_ends(t: Table) -> Ends
+    ensures { λ r. ⌜ Remembers (t .endpoints) sendRight 64 (r .send .at) × Remembers (t .endpoints) receiveRight 64 (r .recv .at) ⌝ }
+{
+    let mut s = Last { at: [64u8; 32] };
+    let mut r = Last { at: [64u8; 32] };
+    let mut i: usize = 0;
+    while i < 64 {
+        let e = t.endpoints[i];
+        s = noted(s, e, 1, i);
+        r = noted(r, e, 2, i);
+        i += 1;
+    }
+    Ends { send: s, recv: r }
+}
+
+fn is_fresh_endpoint(e: Endpoint) -> bool
+    ensures { λ r. ⌜ r ≡ isFreshEndpoint e ⌝ }
+{
+    !e.live & (e.generation == 0) & (e.rights.bits == 0) & (e.mailbox == 0)
+}
+
+fn endpoint_test(e: Endpoint, below: bool, named: bool, send: bool, recv: bool) -> bool
+    ensures { λ r. ⌜ r ≡ endpointTest e below named send recv ⌝ }
+{
+    if !e.live {
+        return below | is_fresh_endpoint(e);
+    }
+    below & named & (((e.rights.bits == 1) & send) | ((e.rights.bits == 2) & recv))
+}
+
+// A dead endpoint may name any number: the place that is read for it is not looked at.
+fn endpoints_ok(t: Table, l: Ends) -> bool
+    requires { ⌜ Remembers (t .endpoints) sendRight 64 (l .send .at) × Remembers (t .endpoints) receiveRight 64 (l .recv .at) ⌝ }
+    ensures { λ r. ⌜ r ≡ every (endpointOk t) 64 ⌝ }
+{
+    let n = t.sizes.endpoints;
+    let send = l.send;
+    let recv = l.recv;
+    let mut ok = true;
+    let mut i: usize = 0;
+    while i < 64 {
+        let e = t.endpoints[i];
+        let k = (e.mailbox % 32) as usize;
+        let b = t.mailboxes[k];
+        let named = (e.mailbox < 32) & b.live;
+        ok = ok
+            & endpoint_test(
+                e,
+                i < n,
+                named,
+                wide(send.at[k]) == i,
+                wide(recv.at[k]) == i,
+            );
+        i += 1;
+    }
+    ok
+}
+
+fn wide(x: u8) -> usize
+    ensures { λ r. ⌜ r ≡ x ⌝ }
+{
+    x as usize
+}
+
+fn ring_test(d: usize, b: Mailbox) -> bool
+    requires { ⌜ d ≤ 8 ⌝ }
+    ensures { λ r. ⌜ r ≡ ringTest d b ⌝ }
+{
+    if b.len > d {
+        return false;
+    }
+    if b.head >= d {
+        return false;
+    }
+    if b.tail >= d {
+        return false;
+    }
+    b.head == (b.tail + b.len) % d
+}
+
+fn waiter_test(b: Mailbox) -> bool
+    ensures { λ r. ⌜ r ≡ waiterTest b ⌝ }
+{
+    !b.waiter.present | ((b.len == 0) & (!b.auto_reap | (0 < b.send_holders)))
+}
+
+fn ends_test(s: usize, r: usize, g: u16, h: u16) -> bool
+    ensures { λ v. ⌜ v ≡ endsTest s r g h ⌝ }
+{
+    (s < 64) & (r < 64) & (g == h) & !(g == 0)
+}
+
+fn is_fresh_mailbox(b: Mailbox) -> bool
+    ensures { λ r. ⌜ r ≡ isFreshMailbox b ⌝ }
+{
+    !b.live
+        & (b.head == 0)
+        & (b.tail == 0)
+        & (b.len == 0)
+        & (!b.waiter.present & (b.waiter.task.slot == 0) & (b.waiter.task.epoch == 0))
+        & (b.send_holders == 0)
+        & !b.auto_reap
+}
+
+fn mailbox_test(b: Mailbox, below: bool, ends: bool, d: usize) -> bool
+    requires { ⌜ d ≤ 8 ⌝ }
+    ensures { λ r. ⌜ r ≡ mailboxTest b below ends d ⌝ }
+{
+    if !b.live {
+        return is_fresh_mailbox(b);
+    }
+    below & ends & ring_test(d, b) & waiter_test(b)
+}
+
+fn mailboxes_ok(t: Table, l: Ends) -> bool
+    requires { ⌜ Remembers (t .endpoints) sendRight 64 (l .send .at) × Remembers (t .endpoints) receiveRight 64 (l .recv .at) × (t .sizes .depth ≤ 8) ⌝ }
+    ensures { λ r. ⌜ r ≡ every (mailboxOk t) 32 ⌝ }
+{
+    let m = t.sizes.mailboxes;
+    let d = t.sizes.depth;
+    let send = l.send;
+    let recv = l.recv;
+    let mut ok = true;
+    let mut k: usize = 0;
+    while k < 32 {
+        let b = t.mailboxes[k];
+        let s = wide(send.at[k]);
+        let r = wide(recv.at[k]);
+        let se = t.endpoints[s % 64];
+        let re = t.endpoints[r % 64];
+        let ends = ends_test(s, r, se.generation, re.generation);
+        ok = ok & mailbox_test(b, k < m, ends, d);
+        k += 1;
+    }
+    ok
+}
+
+pub fn sound(t: Table) -> bool
+    ensures { λ r. ⌜ r ≡ soundTest t ⌝ }
+{
+    let z = t.sizes;
+    if !in_range(z) {
+        return false;
+    }
+    let l = last_ends(t);
+    !(t.next_gen == 0) & places_ok(t) & endpoints_ok(t, l) & mailboxes_ok(t, l)
+}
