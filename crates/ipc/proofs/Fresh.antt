@@ -1,34 +1,24 @@
 -- Sizes in range, as a test and as a fact; and a fresh table of such sizes is sound. Assumes nothing.
-use mathlib.Core.Path.{_≡_, refl, sym, _∙_, ap}
-use mathlib.Core.Bool.{Bool, true, false, _&&_}
-use Prim.Native.Nat.{ℕ, _≤_, _<_, _+_, _*_}
+use mathlib.Core.Path.{_≡_, refl, ap}
+use mathlib.Core.Bool.{true}
+use Prim.Native.Nat.{ℕ, _+_, _*_}
 use native.Mathlib.Omega.{arith}
 use borrow.Author.Tests.{leb-true, le-leb}
 use lib.Dec.{leb}
 use lib.ListN.{getD, replicate}
-use Rattle.laws.proofs.Every.{and-left, and-right, and-both}
 use Rattle.laws.proofs.Lists.{all-replicate}
-use Rattle.ipc.specs.State.{Shape, freshMailbox, freshEndpoint, freshMessage, boxIn, endIn}
+use Rattle.ipc.specs.State.{freshMailbox, freshEndpoint, freshMessage, boxIn, endIn}
 use Rattle.ipc.specs.Make.{freshOf, inRange}
 use Rattle.ipc.specs.Sound.{InRange, Sound}
 use Rattle.ipc.specs.declared.state.Sizes.{Sizes}
 use Rattle.ipc.specs.declared.state.Endpoint.{Endpoint}
 use Rattle.ipc.specs.declared.state.Mailbox.{Mailbox}
-use Rattle.ipc.proofs.Last.{true-false}
+use Rattle.ipc.proofs.Bools.{true-false, and-four}
 
 pub in-range-of : (z : Sizes) → inRange z ≡ true → InRange z
 in-range-of z h =
-    let m = leb (z .mailboxes) 32 in
-    let e = leb (z .endpoints) 64 in
-    let s = leb 1 (z .depth) in
-    let three = and-left (m && e && s) (leb (z .depth) 8) h in
-    let two = and-left (m && e) s three in
-    record {
-      mailboxes = leb-true _ _ (and-left m e two);
-      endpoints = leb-true _ _ (and-right m e two);
-      deep = leb-true _ _ (and-right (m && e) s three);
-      depth = leb-true _ _ (and-right (m && e && s) (leb (z .depth) 8) h);
-    }
+    let p = and-four (leb (z .mailboxes) 32) (leb (z .endpoints) 64) (leb 1 (z .depth)) (leb (z .depth) 8) h in
+    record { mailboxes = leb-true _ _ (p .0); endpoints = leb-true _ _ (p .1); deep = leb-true _ _ (p .2); depth = leb-true _ _ (p .3) }
 
 pub of-in-range : (z : Sizes) → InRange z → inRange z ≡ true
 of-in-range z r = simp (le-leb _ _ (r .mailboxes), le-leb _ _ (r .endpoints), le-leb _ _ (r .deep), le-leb _ _ (r .depth))

@@ -1,13 +1,13 @@
 -- The last end of each mailbox: how a pass over the endpoints finds it, and what it says where every end is the last. Assumes nothing.
 use mathlib.Core.Path.{_≡_, refl, sym, _∙_, ap}
-use mathlib.Core.Bool.{Bool, true, false, _&&_}
+use mathlib.Core.Bool.{true, false, _&&_}
 use mathlib.Core.Logic.{⊎-elim}
 use mathlib.Core.List.{List}
 use Prim.Native.Nat.{ℕ, zero, suc, _+_, _≤_, _<_}
 use native.Mathlib.Nat.{not-suc-le-zero, le-of-suc-le-suc, eq-or-lt-of-le}
 use native.Mathlib.Numerals.{add-one}
 use native.Mathlib.Omega.{arith}
-use borrow.Author.Tests.{eqb-true, eqb-false, eq-eqb, ltb-true, lt-ltb}
+use borrow.Author.Tests.{eqb-true, eq-eqb, ltb-true, lt-ltb}
 use lib.Dec.{eqb, ltb}
 use lib.ListN.{getD, set, length, replicate, getD-replicate}
 use lib.Seq.{getD-set-same, getD-set-other}
@@ -15,13 +15,11 @@ use Rattle.laws.specs.Pick.{pick}
 use Rattle.laws.proofs.Cases.{all-pick}
 use Rattle.laws.proofs.Every.{and-left, and-right, and-both}
 use Rattle.cap.specs.declared.CapRights.{CapRights}
-use Rattle.ipc.specs.State.{endIn, endLive}
+use Rattle.ipc.proofs.Bools.{true-false, and-three}
+use Rattle.ipc.specs.State.{endIn}
 use Rattle.ipc.specs.Sound.{IsEnd}
 use Rattle.ipc.specs.SoundTest.{isEnd, lastEnd, Remembers}
 use Rattle.ipc.specs.declared.state.Endpoint.{Endpoint}
-
-pub true-false : {b : Bool} → b ≡ true → b ≡ false → ⊥
-true-false p q = let z : _≡_ {A = ℕ} 0 1 = cc in omega arith
 
 -- ---- the pass
 module _ (at : List ℕ) (e : Endpoint) (w : CapRights) (i : ℕ) where
@@ -63,3 +61,33 @@ remembers-more es w n at after r h = record { last = λ k l. h k l ∙ rw (add-o
 
 pub remembers-all : (es : List Endpoint) (w : CapRights) (i n : ℕ) (at : List ℕ) → i ≤ n → n ≤ i → Remembers es w i at → Remembers es w n at
 remembers-all es w i n at l g r = let e : i ≡ n = omega arith in rw e at r
+
+-- ---- what it says
+pub is-end : (es : List Endpoint) (w : CapRights) (k i : ℕ) → isEnd (endIn es i) w k ≡ true → IsEnd es w k i
+is-end es w k i h =
+    let e = endIn es i in
+    let p = and-three (e .live) (eqb (e .rights .bits) (w .bits)) (eqb (e .mailbox) k) h in
+    record { live = p .0; rights = λ j. record { bits = eqb-true (e .rights .bits) (w .bits) (p .1) j }; names = eqb-true (e .mailbox) k (p .2) }
+
+pub end-is : (es : List Endpoint) (w : CapRights) (k i : ℕ) → IsEnd es w k i → isEnd (endIn es i) w k ≡ true
+end-is es w k i h = simp (h .live, eq-eqb _ _ (ap (λ (r : CapRights). r .bits) (h .rights)), eq-eqb _ _ (h .names))
+
+-- v is an end where it is below 64, and it is where there is one
+pub record IsLast (es : List Endpoint) (w : CapRights) (k n v : ℕ) : Type 0 where
+  pub end : v < 64 → IsEnd es w k v
+  pub any : (i : ℕ) → i < n → IsEnd es w k i → v < 64
+
+pub last-of : (es : List Endpoint) (w : CapRights) (k n : ℕ) → n ≤ 64 → IsLast es w k n (lastEnd es w k n)
+unfolding lastEnd
+last-of es w k zero l = record { end = λ h. absurd (omega arith); any = λ i h _. absurd (not-suc-le-zero h) }
+last-of es w k (suc n) l =
+    let before = last-of es w k n (omega arith) in
+    all-pick (IsLast es w k (suc n)) (isEnd (endIn es n) w k) n (lastEnd es w k n)
+    (λ y. record { end = λ _. is-end es w k n y; any = λ i _ _. omega arith })
+    (λ no.
+    record {
+      end = before .end;
+      any = λ i h e.
+          ⊎-elim (λ q. absurd (true-false (end-is es w k n (rw q at e)) no)) (λ lt. before .any i lt e)
+          (eq-or-lt-of-le (le-of-suc-le-suc h));
+    })

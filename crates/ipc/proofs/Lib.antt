@@ -1,7 +1,13 @@
 pub mod Openings
 pub mod Keeps
 pub mod KeepsCalls
+pub mod Bools
+pub mod Elements
 pub mod Shapes
 pub mod Reading
 pub mod Last
 pub mod Fresh
+pub mod DecidePlaces
+pub mod DecideEndpoints
+pub mod DecideMailboxes
+pub mod Decide

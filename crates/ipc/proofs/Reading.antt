@@ -1,5 +1,5 @@
 -- Places that the test reads for what is not there, with the index cut down: nothing of what is read there counts. Assumes nothing.
-use mathlib.Core.Path.{_≡_, refl, sym, _∙_, ap}
+use mathlib.Core.Path.{_≡_, refl, ap}
 use mathlib.Core.Bool.{Bool, true, false, _&&_, and-false}
 use mathlib.Core.List.{List}
 use Prim.Native.Nat.{ℕ, _≤_, _<_, _%_}
@@ -7,7 +7,6 @@ use native.Mathlib.Omega.{arith}
 use borrow.Author.Tests.{ltb-true, ltb-false}
 use lib.Dec.{eqb, ltb}
 use lib.ListN.{getD, length, List·getD-eq-default}
-use Rattle.laws.specs.Pick.{pick}
 use Rattle.cap.specs.Rights.{sendRight, receiveRight}
 use Rattle.ipc.specs.State.{freshMailbox, mailboxAt, mailboxLive, endpointAt}
 use Rattle.ipc.specs.SoundTest.{Remembers, endpointTest, endpointTestAt, endsTest, endsTestAt}

@@ -10,12 +10,11 @@ use Rattle.laws.specs.Pick.{pick}
 use Rattle.laws.specs.Every.{every}
 use Rattle.cap.specs.Rights.{sendRight, receiveRight}
 use Rattle.cap.specs.declared.CapRights.{CapRights}
-use Rattle.ipc.specs.State.{freshMessage, endIn, boxIn, endpointAt, mailboxAt, mailboxLive, endLive, boxLive}
+use Rattle.ipc.specs.State.{freshMessage, endIn, endpointAt, mailboxAt, mailboxLive}
 use Rattle.ipc.specs.Make.{inRange}
 use Rattle.ipc.specs.declared.state.Endpoint.{Endpoint}
 use Rattle.ipc.specs.declared.state.Mailbox.{Mailbox}
 use Rattle.ipc.specs.declared.state.Message.{Message}
-use Rattle.ipc.specs.declared.state.Sizes.{Sizes}
 use Rattle.ipc.specs.declared.state.Waiter.{Waiter}
 use Rattle.ipc.specs.declared.state.Table.{Table}
 
@@ -31,7 +30,7 @@ isNobody w = not (w .present) && eqb (w .task .slot) 0 && eqb (w .task .epoch) 0
 
 abbrev pub isFreshMailbox : Mailbox → Bool
 isFreshMailbox b =
-    not (b .live) && eqb (b .head) 0 && eqb (b .tail) 0 && eqb (b .len) 0 && isNobody (b .waiter) && eqb (b .«send_holders») 0 && not (b .«auto_reap»)
+    not (b .live) && eqb (b .head) 0 && eqb (b .tail) 0 && eqb (b .len) 0 && (isNobody (b .waiter) && eqb (b .«send_holders») 0 && not (b .«auto_reap»))
 
 -- ---- message places
 -- as when fresh, or place p of the ring of a live mailbox, of depth d

@@ -159,13 +159,12 @@ fn ends_test(s: usize, r: usize, g: u16, h: u16) -> bool
 fn is_fresh_mailbox(b: Mailbox) -> bool
     ensures { λ r. ⌜ r ≡ isFreshMailbox b ⌝ }
 {
+    let nobody = !b.waiter.present & (b.waiter.task.slot == 0) & (b.waiter.task.epoch == 0);
     !b.live
         & (b.head == 0)
         & (b.tail == 0)
         & (b.len == 0)
-        & (!b.waiter.present & (b.waiter.task.slot == 0) & (b.waiter.task.epoch == 0))
-        & (b.send_holders == 0)
-        & !b.auto_reap
+        & (nobody & (b.send_holders == 0) & !b.auto_reap)
 }
 
 fn mailbox_test(b: Mailbox, below: bool, ends: bool, d: usize) -> bool

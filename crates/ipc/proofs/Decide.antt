@@ -1,0 +1,64 @@
+-- The computed test and the proposition say the same of a table: `soundTest` decides `Sound`. Assumes nothing.
+use mathlib.Core.Path.{_≡_, ap}
+use mathlib.Core.Bool.{true, _&&_, not}
+use mathlib.Core.Logic.{⊎-elim}
+use native.Mathlib.Omega.{arith}
+use borrow.Author.Tests.{eqb-false, ne-eqb, not-true}
+use lib.Dec.{eqb}
+use Rattle.laws.specs.Every.{every}
+use Rattle.laws.proofs.Every.{and-left, and-right}
+use Rattle.ipc.specs.State.{Shape}
+use Rattle.ipc.specs.Make.{inRange}
+use Rattle.ipc.specs.Sound.{Sound}
+use Rattle.ipc.specs.SoundTest.{placeOk, endpointOk, mailboxOk, soundTest}
+use Rattle.ipc.specs.declared.state.Mailbox.{Mailbox}
+use Rattle.ipc.specs.declared.state.Table.{Table}
+use Rattle.ipc.proofs.Bools.{true-false, and-four}
+use Rattle.ipc.proofs.Fresh.{in-range-of, of-in-range}
+use Rattle.ipc.proofs.DecidePlaces.{fresh-place, places-pass}
+use Rattle.ipc.proofs.DecideEndpoints.{known-of, endpoints-pass}
+use Rattle.ipc.proofs.DecideMailboxes.{kind-of, mailboxes-pass}
+
+-- the test's parts
+record Parts (t : Table) : Type 0 where
+  pub sizes : inRange (t .sizes) ≡ true
+  pub next : not (eqb (t .«next_gen») 0) ≡ true
+  pub places : every (placeOk t) 256 ≡ true
+  pub endpoints : every (endpointOk t) 64 ≡ true
+  pub mailboxes : every (mailboxOk t) 32 ≡ true
+
+parts : (t : Table) → soundTest t ≡ true → Parts t
+unfolding soundTest
+parts t h =
+    let next = not (eqb (t .«next_gen») 0) in
+    let rest = next && every (placeOk t) 256 && every (endpointOk t) 64 && every (mailboxOk t) 32 in
+    let p = and-four next (every (placeOk t) 256) (every (endpointOk t) 64) (every (mailboxOk t) 32) (and-right (inRange (t .sizes)) rest h) in
+    record { sizes = and-left (inRange (t .sizes)) rest h; next = p .0; places = p .1; endpoints = p .2; mailboxes = p .3 }
+
+-- a table that passes the test is sound
+pub sound-of : (t : Table) → Shape t → soundTest t ≡ true → Sound t
+sound-of t shape h =
+    let p = parts t h in
+    let known = known-of t shape (p .endpoints) in
+    let kind = kind-of t shape known (p .mailboxes) in
+    record {
+      shape = shape;
+      sizes = in-range-of (t .sizes) (p .sizes);
+      mailboxes-past = λ k g. ⊎-elim (λ e. e) (λ v. absurd (omega arith)) (kind k);
+      endpoints-past = λ i. known i .past;
+      places-past = λ k q l g. fresh-place t shape (p .places) k q l (λ _ b. omega arith);
+      next = eqb-false (t .«next_gen») 0 (not-true (eqb (t .«next_gen») 0) (p .next));
+      dead = λ k d. ⊎-elim (λ e. e) (λ v. absurd (true-false (v .live) d)) (kind k);
+      dead-places = λ k q l d. fresh-place t shape (p .places) k q l (λ v _. true-false v d);
+      ends = λ k v. ⊎-elim (λ e. absurd (true-false v (ap (λ (b : Mailbox). b .live) e))) (λ x. x .ends) (kind k);
+      ring = λ k v. ⊎-elim (λ e. absurd (true-false v (ap (λ (b : Mailbox). b .live) e))) (λ x. x .ring) (kind k);
+      names = λ i. known i .names;
+      waits-empty = λ k w. ⊎-elim (λ e. absurd (true-false w (ap (λ (b : Mailbox). b .waiter .present) e))) (λ x. x .waits .empty w) (kind k);
+      waits-held = λ k w. ⊎-elim (λ e. absurd (true-false w (ap (λ (b : Mailbox). b .waiter .present) e))) (λ x. x .waits .held w) (kind k);
+    }
+
+-- a sound table passes the test
+pub test-of : (t : Table) → Sound t → soundTest t ≡ true
+unfolding soundTest
+test-of t σ =
+    simp (of-in-range (t .sizes) (σ .sizes), ne-eqb _ _ (σ .next), places-pass t σ, endpoints-pass t σ, mailboxes-pass t σ)

@@ -1,0 +1,104 @@
+-- The test of the mailboxes: each is as when fresh, or live with its two ends, its ring and no waiter that it should not have.
+-- Assumes nothing.
+use mathlib.Core.Path.{_≡_, ap}
+use mathlib.Core.Bool.{Bool, true, false, _&&_, not}
+use mathlib.Core.Logic.{_⊎_, inl, inr, ⊎-elim}
+use Prim.Native.Nat.{ℕ, _<_}
+use borrow.Author.Tests.{eqb-true, eqb-false, eq-eqb, ne-eqb, ltb-true, lt-ltb, not-true}
+use lib.Dec.{eqb, ltb}
+use Rattle.laws.specs.Pick.{pick}
+use Rattle.laws.specs.Every.{every}
+use Rattle.laws.proofs.Every.{every-at, at-every}
+use Rattle.cap.specs.Rights.{sendRight, receiveRight}
+use Rattle.ipc.specs.State.{Shape, freshMailbox, mailboxAt, mailboxLive, endpointAt}
+use Rattle.ipc.specs.Sound.{Ends, Ring, Sound}
+use Rattle.ipc.specs.SoundTest.{isFreshMailbox, sendEnd, recvEnd, ringTest, waiterTest, endsTestAt, mailboxTest, mailboxOk}
+use Rattle.ipc.specs.declared.state.Mailbox.{Mailbox}
+use Rattle.ipc.specs.declared.state.Table.{Table}
+use Rattle.ipc.proofs.Bools.{true-false, either, below?, and-four, picked, not-picked}
+use Rattle.ipc.proofs.Elements.{fresh-mailbox, ring-of, of-ring, Waits, waits-of, of-waits}
+use Rattle.ipc.proofs.DecideEndpoints.{Known, one-end, end-found}
+use Rattle.ipc.proofs.Shapes.{past, end-below}
+
+-- mailbox k is a live one
+pub record Live (t : Table) (k : ℕ) : Type 0 where
+  pub live : mailboxLive t k ≡ true
+  pub below : k < t .sizes .mailboxes
+  pub ends : Ends (t .endpoints) k
+  pub ring : Ring (t .sizes .depth) (mailboxAt t k)
+  pub waits : Waits (mailboxAt t k)
+
+module _ (t : Table) (known : (i : ℕ) → Known t i) (k : ℕ) where
+  ends-of : endsTestAt t (sendEnd t k) (recvEnd t k) ≡ true → Ends (t .endpoints) k
+  ends-of h =
+      let g = endpointAt t (sendEnd t k) .generation in
+      let p = and-four (ltb (sendEnd t k) 64) (ltb (recvEnd t k) 64) (eqb g (endpointAt t (recvEnd t k) .generation)) (not (eqb g 0)) h in
+      record {
+        send = sendEnd t k;
+        recv = recvEnd t k;
+        one-send = one-end t known sendRight k (ltb-true _ _ (p .0));
+        one-recv = one-end t known receiveRight k (ltb-true _ _ (p .1));
+        one-generation = eqb-true _ _ (p .2);
+        some-generation = eqb-false g 0 (not-true (eqb g 0) (p .3));
+      }
+
+  kind : mailboxOk t k ≡ true → (mailboxAt t k ≡ freshMailbox) ⊎ Live t k
+  unfolding mailboxOk mailboxTest
+  kind h = ⊎-elim (λ v. inr (live v)) (λ d. inl (fresh-mailbox b (not-picked (b .live) whole (isFreshMailbox b) h d))) (either (b .live))
+    where
+      b : Mailbox
+      b = mailboxAt t k
+
+      below : Bool
+      below = ltb k (t .sizes .mailboxes)
+
+      ends : Bool
+      ends = endsTestAt t (sendEnd t k) (recvEnd t k)
+
+      ring : Bool
+      ring = ringTest (t .sizes .depth) b
+
+      whole : Bool
+      whole = below && ends && ring && waiterTest b
+
+      live : b .live ≡ true → Live t k
+      live v =
+          let p = and-four below ends ring (waiterTest b) (picked (b .live) whole (isFreshMailbox b) h v) in
+          record { live = v; below = ltb-true _ _ (p .0); ends = ends-of (p .1); ring = ring-of _ b (p .2); waits = waits-of b (p .3) }
+
+pub kind-of : (t : Table) → Shape t → ((i : ℕ) → Known t i) → every (mailboxOk t) 32 ≡ true → (k : ℕ) → (mailboxAt t k ≡ freshMailbox) ⊎ Live t k
+kind-of t shape known h k =
+    ⊎-elim (λ l. kind t known k (every-at (mailboxOk t) 32 h k l)) (λ g. inl (past (t .mailboxes) freshMailbox 32 k (shape .mailboxes) g)) (below? k 32)
+
+-- ---- and back
+module _ (t : Table) (σ : Sound t) (k : ℕ) where
+  in-size : mailboxLive t k ≡ true → k < t .sizes .mailboxes
+  in-size v =
+      ⊎-elim (λ l. l) (λ g. absurd (true-false v (ap (λ (b : Mailbox). b .live) (σ .mailboxes-past k g)))) (below? k (t .sizes .mailboxes))
+
+  of-ends : Ends (t .endpoints) k → endsTestAt t (sendEnd t k) (recvEnd t k) ≡ true
+  of-ends e =
+      rw (end-found t (σ .shape) sendRight k (e .send) (e .one-send), end-found t (σ .shape) receiveRight k (e .recv) (e .one-recv))
+      (simp (
+        lt-ltb _ _ (end-below t (σ .shape) (e .send) (e .one-send .is .live)),
+        lt-ltb _ _ (end-below t (σ .shape) (e .recv) (e .one-recv .is .live)),
+        eq-eqb _ _ (e .one-generation),
+        ne-eqb _ _ (e .some-generation),
+      ))
+
+  of-live : (below ends : Bool) → mailboxLive t k ≡ true → below ≡ true → ends ≡ true → mailboxTest (mailboxAt t k) below ends (t .sizes .depth) ≡ true
+  unfolding mailboxTest pick
+  of-live below ends v l e =
+      simp (v, l, e, of-ring _ (mailboxAt t k) (σ .ring k v), of-waits (mailboxAt t k) (record { empty = σ .waits-empty k; held = σ .waits-held k }))
+
+  of-dead : (below ends : Bool) → mailboxLive t k ≡ false → mailboxTest (mailboxAt t k) below ends (t .sizes .depth) ≡ true
+  unfolding mailboxTest pick
+  of-dead below ends v = rw (σ .dead k v)
+
+  passes : mailboxOk t k ≡ true
+  unfolding mailboxOk
+  passes =
+      ⊎-elim (λ v. of-live _ _ v (lt-ltb _ _ (in-size v)) (of-ends (σ .ends k v))) (λ d. of-dead _ _ d) (either (mailboxLive t k))
+
+pub mailboxes-pass : (t : Table) → Sound t → every (mailboxOk t) 32 ≡ true
+mailboxes-pass t σ = at-every (mailboxOk t) 32 (λ k _. passes t σ k)
