@@ -1,0 +1,20 @@
+use borrow.Author.Needs.{needs}
+use Rattle.ipc.proofs.inner.revocation.killed.Statement.{statement}
+use Rattle.ipc.proofs.inner.revocation.killed.Tie as tie
+use Rattle.ipc.proofs.inner.revocation.killed.Reads as reads
+use Rattle.ipc.proofs.inner.revocation.killed.Lts as lts
+
+-- src/inner/revocation.rt:25:19
+cast-if1 : tie.Need-cast-if1
+cast-if1 c = search needs
+
+-- src/inner/revocation.rt:27:9
+returns : tie.Need-returns
+returns c = ?
+
+-- src/inner/revocation.rt:22:1
+returns-2 : tie.Need-returns-2
+returns-2 c = ?
+
+pub killed-spec : {M : Type 1} → statement M
+killed-spec = tie.close (tie.spec cast-if1 returns returns-2)

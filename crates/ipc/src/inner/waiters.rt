@@ -1,0 +1,42 @@
+// A task that is no longer to be woken.
+ghost use mathlib.Core.Path.{_≡_};
+ghost use Rattle.ipc.specs.Sound.{Sound};
+ghost use Rattle.ipc.specs.Waiters.{waitsOn, clearOf};
+use crate::answers::ClearAnswer;
+use crate::answers::Clearing;
+use crate::state::Mailbox;
+use crate::state::Table;
+use crate::state::TaskId;
+use crate::state::Waiter;
+
+fn waits_on(b: Mailbox, task: TaskId) -> bool
+    ensures { λ r. ⌜ r ≡ waitsOn b task ⌝ }
+{
+    b.waiter.present & ((b.waiter.task.slot == task.slot) & (b.waiter.task.epoch == task.epoch))
+}
+
+// Takes `task` out of every mailbox that it waits on, and counts them.
+pub fn clear_waiter(mut t: Table, task: TaskId) -> Clearing
+    requires { ⌜ Sound t ⌝ }
+    ensures { λ r. ⌜ r ≡ clearOf t task ⌝ }
+{
+    let nobody = Waiter {
+        present: false,
+        task: TaskId { slot: 0, epoch: 0 },
+    };
+    let mut cleared: u32 = 0;
+    let mut k: usize = 0;
+    while k < 32 {
+        let mut b = t.mailboxes[k];
+        if waits_on(b, task) {
+            b.waiter = nobody;
+            t.mailboxes[k] = b;
+            cleared += 1;
+        }
+        k += 1;
+    }
+    Clearing {
+        answer: ClearAnswer::Cleared(cleared),
+        table: t,
+    }
+}
