@@ -1,0 +1,36 @@
+-- Document 01, "Ids and the two mint tables": the IRQ table, 8 entries from base 32,768, never freed.
+use Prim.Native.Nat.{ℕ}
+use lib.ListN.{replicate}
+use Rattle.laws.specs.declared.Place.{Place}
+use Rattle.laws.specs.declared.Place.the-variants.{At, Nowhere}
+use Rattle.cap.specs.Id.{classOf}
+use Rattle.cap.specs.declared.CapId.{CapId}
+use Rattle.cap.specs.declared.CapClass.{CapClass}
+use Rattle.cap.specs.declared.CapClass.the-variants.{Endpoint, Task, Irq, Invalid}
+use Rattle.mint.specs.Entry.{noEntry}
+use Rattle.mint.specs.Entries.{freeEntry, mintWith, lookupIn}
+use Rattle.mint.specs.declared.LookupAnswer.{LookupAnswer}
+use Rattle.irqcap.specs.declared.Table.{Table}
+use Rattle.irqcap.specs.declared.Minted.{Minted}
+
+abbrev pub freshTable : Table
+freshTable = record { entries = replicate 8 noEntry }
+
+-- the lowest free entry of a table
+abbrev pub freeEntryOf : Table → Place
+freeEntryOf t = freeEntry 8 (t .entries)
+
+-- a mint for a cookie: the lowest free entry, or none
+unfoldable pub mintOf : Table → ℕ → Minted
+mintOf t cookie = mintWith 8 32768 (t .entries) cookie (λ a es. record { answer = a; table = record { entries = es } })
+
+-- the entry that an id of this class names
+unfoldable pub irqPlace : CapClass → Place
+irqPlace (Endpoint p) = Nowhere
+irqPlace (Task p) = Nowhere
+irqPlace (Irq p) = At p
+irqPlace Invalid = Nowhere
+
+-- the cookie that an id names
+unfoldable pub lookupOf : Table → CapId → LookupAnswer
+lookupOf t c = lookupIn 8 (t .entries) (irqPlace (classOf c)) c
