@@ -1,2 +1,4 @@
 pub mod Generations
 pub mod Lookups
+pub mod Through
+pub mod Ends

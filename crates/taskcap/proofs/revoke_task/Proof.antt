@@ -1,0 +1,96 @@
+-- `taskcap::revoke_task` meets its contract. The loop's invariant: the first `i` entries are ended where they are the task's, and counted.
+-- Assumes nothing.
+use mathlib.Core.Path.{_≡_, sym, _∙_}
+use mathlib.Core.List.{List, map}
+use mathlib.Core.Logic.{⊎-elim}
+use Prim.Native.Nat.{ℕ, _-_, _≤_}
+use native.Mathlib.Omega.{arith}
+use borrow.Author.Needs.{needs}
+use lib.ListN.{length, length-map}
+use Rattle.mint.proofs.Ends.{Ended, ended-none, ended-yes, ended-no, ended-few, ended-all}
+use Rattle.taskcap.specs.Table.{revokeOf}
+use Rattle.taskcap.specs.declared.Table.{Table}
+use Rattle.taskcap.specs.declared.Revoked.{Revoked}
+use Rattle.taskcap.proofs.revoke_task.Statement.{statement}
+use Rattle.taskcap.proofs.revoke_task.Tie as tie
+
+abbrev Inv-loop : tie.InvT-loop
+Inv-loop task t₀ count₀ i₀ t count i = (i ≤ 32) × Ended task (t₀ .entries) i (t .entries) count
+
+abbrev μ-loop : tie.MeasureT-loop
+μ-loop task t₀ count₀ i₀ t count i = 32 - i
+
+unmapped : (X Y : Type 0) (f : X → Y) (l : List X) (n : ℕ) → length (map f l) ≡ n → length l ≡ n
+unmapped X Y f l n p = sym (length-map l f) ∙ p
+
+whole : (c : tie.Start Inv-loop μ-loop) → length (c .args .t1 .entries) ≡ 32
+whole c = search (needs, unmapped)
+
+revoked :
+    {t₀ t : Table} {task n : ℕ} → length (t₀ .entries) ≤ 32 → Ended task (t₀ .entries) 32 (t .entries) n →
+    _≡_ {A = Revoked} (record { count = n; table = t }) (revokeOf t₀ task)
+unfolding revokeOf
+revoked h e = rw (← e .counts, ← ended-all _ _ 32 h e)
+
+loop-holds : tie.Need-loop-holds Inv-loop μ-loop
+loop-holds c = (search needs, ended-none _ _)
+
+mul-e : tie.Need-mul-e Inv-loop μ-loop
+mul-e c = search needs
+
+element-copy-out-e : tie.Need-element-copy-out-e Inv-loop μ-loop
+element-copy-out-e c = search needs
+
+is-of-requires : tie.Need-is-of-requires Inv-loop μ-loop
+is-of-requires c κs = search needs
+
+ended-requires : tie.Need-ended-requires Inv-loop μ-loop
+ended-requires c κs = search needs
+
+mul-t14 : tie.Need-mul-t14 Inv-loop μ-loop
+mul-t14 c = search needs
+
+element-set-from-t : tie.Need-element-set-from-t Inv-loop μ-loop
+element-set-from-t c = search needs
+
+add-count : tie.Need-add-count Inv-loop μ-loop
+add-count c = omega (arith, ended-few (c .before .before .before .before .before .loop .inv .1))
+
+add-i : tie.Need-add-i Inv-loop μ-loop
+add-i c = search needs
+
+loop-less : tie.Need-loop-less Inv-loop μ-loop
+loop-less c = search needs
+
+loop-again : tie.Need-loop-again Inv-loop μ-loop
+loop-again c = (
+  search needs,
+  ⊎-elim
+      (λ w. rw (w .2, w .3, w .1 .ensures) (ended-yes _ _ _ (c .before .before .before .before .loop .inv .1) (sym (c .before .is-of .ensures) ∙ w .0 .taken)))
+      (λ w. rw (w .1, w .2) (ended-no _ _ _ (c .before .before .before .before .loop .inv .1) (sym (c .before .is-of .ensures) ∙ w .0 .left)))
+      (c .if1 .came),
+)
+
+returns : tie.Need-returns Inv-loop μ-loop
+returns c =
+    let e : c .before .loop .i ≡ 32 = omega arith in
+    revoked (omega (arith, whole (c .before .before))) (rw e at (c .before .loop .inv .1))
+
+pub revoke-task-spec : {M : Type 1} → statement M
+revoke-task-spec =
+    tie.close
+    (tie.spec
+    Inv-loop
+    μ-loop
+    loop-holds
+    mul-e
+    element-copy-out-e
+    is-of-requires
+    ended-requires
+    mul-t14
+    element-set-from-t
+    add-count
+    add-i
+    loop-less
+    loop-again
+    returns)

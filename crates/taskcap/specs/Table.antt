@@ -1,0 +1,41 @@
+-- Document 01, "Ids and the two mint tables": the task table, 32 entries from base 16,384, freed by the end of a task.
+use Prim.Native.Nat.{ℕ}
+use lib.ListN.{replicate}
+use Rattle.laws.specs.declared.Place.{Place}
+use Rattle.laws.specs.declared.Place.the-variants.{At, Nowhere}
+use Rattle.cap.specs.Id.{classOf}
+use Rattle.cap.specs.declared.CapId.{CapId}
+use Rattle.cap.specs.declared.CapClass.{CapClass}
+use Rattle.cap.specs.declared.CapClass.the-variants.{Endpoint, Task, Irq, Invalid}
+use Rattle.mint.specs.Entry.{noEntry}
+use Rattle.mint.specs.Entries.{freeEntry, mintWith, lookupIn, endedIn, heldBy}
+use Rattle.mint.specs.declared.LookupAnswer.{LookupAnswer}
+use Rattle.taskcap.specs.declared.Table.{Table}
+use Rattle.taskcap.specs.declared.Minted.{Minted}
+use Rattle.taskcap.specs.declared.Revoked.{Revoked}
+
+abbrev pub freshTable : Table
+freshTable = record { entries = replicate 32 noEntry }
+
+-- the lowest free entry of a table
+abbrev pub freeEntryOf : Table → Place
+freeEntryOf t = freeEntry 32 (t .entries)
+
+-- a mint for a task: the lowest free entry, or none
+unfoldable pub mintOf : Table → ℕ → Minted
+mintOf t task = mintWith 32 16384 (t .entries) task (λ a es. record { answer = a; table = record { entries = es } })
+
+-- the entry that an id of this class names
+unfoldable pub taskPlace : CapClass → Place
+taskPlace (Endpoint p) = Nowhere
+taskPlace (Task p) = At p
+taskPlace (Irq p) = Nowhere
+taskPlace Invalid = Nowhere
+
+-- the task that an id names
+unfoldable pub lookupOf : Table → CapId → LookupAnswer
+lookupOf t c = lookupIn 32 (t .entries) (taskPlace (classOf c)) c
+
+-- the end of a task kills its live entries and counts them
+unfoldable pub revokeOf : Table → ℕ → Revoked
+revokeOf t task = record { count = heldBy 32 (t .entries) task; table = record { entries = endedIn (t .entries) task } }
