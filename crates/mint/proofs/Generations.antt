@@ -1,11 +1,11 @@
 -- Generations go from 1 to 65,535 and round again: none is 0, and none follows itself. Assumes nothing.
 use mathlib.Core.Path.{_≡_, refl}
-use Prim.Native.Nat.{ℕ, _+_, _%_, _^_, _≤_}
+use Prim.Native.Nat.{ℕ, _+_, _≤_}
 use native.Mathlib.Omega.{arith}
-use borrow.Author.Tests.{eqb-true, eqb-false, eq-eqb, ne-eqb}
+use borrow.Author.Tests.{eqb-true, eqb-false}
 use lib.Dec.{eqb}
 use Rattle.laws.specs.Pick.{pick}
-use Rattle.laws.proofs.Cases.{yes, no, all-pick}
+use Rattle.laws.proofs.Cases.{all-pick}
 use Rattle.mint.specs.Generation.{nextGeneration}
 
 -- the document's two edges
@@ -28,12 +28,3 @@ next-fits g h = all-pick (λ n. n ≤ 65535) (eqb g 65535) 1 (g + 1) (λ _. omeg
 pub next-differs : (g : ℕ) → nextGeneration g ≡ g → ⊥
 unfolding nextGeneration
 next-differs g = all-pick (λ n. n ≡ g → ⊥) (eqb g 65535) 1 (g + 1) (λ e q. let d = eqb-true g 65535 e in omega arith) (λ _ q. omega arith)
-
--- adding with wrap and then at least one is the same rule
-pub wrapped : {n : ℕ} (g : ℕ) → g ≤ 65535 → n ≡ (g + 1) % 2 ^ 16 → n ≡ 0 → 1 ≡ nextGeneration g
-unfolding nextGeneration
-wrapped g h e z = yes (g + 1) (eq-eqb g 65535 (omega arith)) refl
-
-pub unwrapped : {n : ℕ} (g : ℕ) → g ≤ 65535 → n ≡ (g + 1) % 2 ^ 16 → (n ≡ 0 → ⊥) → n ≡ nextGeneration g
-unfolding nextGeneration
-unwrapped g h e z = no 1 (ne-eqb g 65535 (λ q. z (omega arith))) (omega arith)

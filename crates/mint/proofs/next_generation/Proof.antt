@@ -1,8 +1,21 @@
 -- `mint::next_generation` meets its contract: the Rust's form, add with wrap and then at least one, is the document's rule. Assumes nothing.
-use Rattle.mint.proofs.Generations.{wrapped, unwrapped}
+use mathlib.Core.Path.{_≡_, refl}
+use Prim.Native.Nat.{ℕ, _+_, _%_, _^_, _≤_}
+use native.Mathlib.Omega.{arith}
 use borrow.Author.Needs.{needs}
+use borrow.Author.Tests.{eq-eqb, ne-eqb}
+use Rattle.laws.proofs.Cases.{yes, no}
+use Rattle.mint.specs.Generation.{nextGeneration}
 use Rattle.mint.proofs.next_generation.Statement.{statement}
 use Rattle.mint.proofs.next_generation.Tie as tie
+
+wrapped : {n : ℕ} (g : ℕ) → g ≤ 65535 → n ≡ (g + 1) % 2 ^ 16 → n ≡ 0 → 1 ≡ nextGeneration g
+unfolding nextGeneration
+wrapped g h e z = yes (g + 1) (eq-eqb g 65535 (omega arith)) refl
+
+unwrapped : {n : ℕ} (g : ℕ) → g ≤ 65535 → n ≡ (g + 1) % 2 ^ 16 → (n ≡ 0 → ⊥) → n ≡ nextGeneration g
+unfolding nextGeneration
+unwrapped g h e z = no 1 (ne-eqb g 65535 (λ q. z (omega arith))) (omega arith)
 
 wrapping-add-u16-requires : tie.Need-wrapping-add-u16-requires
 wrapping-add-u16-requires c κs = search needs

@@ -1,0 +1,115 @@
+-- What a mint changes and what it leaves: a refused one nothing, an accepted one the lowest free entry, which the answered id then names.
+-- Assumes nothing.
+use mathlib.Core.Path.{_≡_, refl, sym, ap, _∙_}
+use mathlib.Core.Bool.{Bool, true, false}
+use mathlib.Core.List.{List}
+use mathlib.Core.Logic.{⊎-elim}
+use Prim.Native.Nat.{ℕ, zero, suc, _+_, _-_, _≤_, _<_}
+use native.Mathlib.Nat.{eq-or-lt-of-le}
+use native.Mathlib.Omega.{arith}
+use lib.ListN.{length, set}
+use lib.Seq.{getD-set-same, getD-set-other}
+use Rattle.laws.specs.Pick.{pick}
+use Rattle.laws.specs.Place.{lowest, lowestFree}
+use Rattle.laws.specs.declared.Place.{Place}
+use Rattle.laws.specs.declared.Place.the-variants.{At, Nowhere}
+use Rattle.laws.proofs.Cases.{all-pick, all-found}
+use Rattle.laws.proofs.Search.{Lowest, lowest-at}
+use Rattle.cap.specs.Id.{idOf, indexOf, generationOf}
+use Rattle.cap.specs.declared.CapId.{CapId}
+use Rattle.cap.proofs.Ids.{generation-of-id}
+use Rattle.mint.specs.Generation.{nextGeneration}
+use Rattle.mint.specs.Entry.{noEntry, mintedEntry}
+use Rattle.mint.specs.Entries.{entryAt, isLive, freeEntry, mintWith, lookupIn}
+use Rattle.mint.specs.declared.Entry.{Entry}
+use Rattle.mint.specs.declared.MintAnswer.{MintAnswer}
+use Rattle.mint.specs.declared.MintAnswer.the-variants.{Minted, NoFreeEntry}
+use Rattle.mint.specs.declared.LookupAnswer.the-variants.{Names}
+use Rattle.mint.proofs.Generations.{next-differs}
+use Rattle.mint.proofs.Named.{Named, lookup-named, named-lookup}
+
+-- a refused mint: every entry is live, and the entries stay
+pub record Refused (n : ℕ) (es after : List Entry) : Type 0 where
+  pub full : (i : ℕ) → i < n → isLive es i ≡ true
+  pub unchanged : after ≡ es
+
+-- an accepted mint that answered the id c: the lowest free entry was minted, and no other
+pub record Accepted (n base : ℕ) (es : List Entry) (number : ℕ) (c : CapId) (after : List Entry) : Type 0 where
+  pub at : ℕ
+  pub place : Lowest (isLive es) 0 n at
+  pub answer : c ≡ idOf (base + at) (nextGeneration (entryAt es at .generation))
+  pub entries : after ≡ set es at (mintedEntry (entryAt es at) number)
+
+-- what a mint's answer says of the entries afterwards
+abbrev pub Tells : ℕ → ℕ → List Entry → ℕ → MintAnswer → List Entry → Type 0
+Tells n base es number (Minted c) after = Accepted n base es number c after
+Tells n base es number NoFreeEntry after = Refused n es after
+
+none-free : (used : ℕ → Bool) (i n : ℕ) → lowest used i n ≡ Nowhere → (j : ℕ) → i ≤ j → j < i + n → used j ≡ true
+unfolding lowest
+none-free used i zero e = λ j a b. absurd (omega arith)
+none-free used i (suc n) e =
+    all-pick (λ p. p ≡ Nowhere → (j : ℕ) → i ≤ j → j < i + suc n → used j ≡ true) (used i) _ _
+    (λ u h j a b. ⊎-elim (λ q. rw (← q) u) (λ l. none-free used (suc i) n h j l (omega arith)) (eq-or-lt-of-le a))
+    (λ _ h j a b. let z : _≡_ {A = ℕ} 0 1 = cc in absurd (omega arith))
+    e
+
+-- what `Tells` says holds of a mint, however its answer and its entries are joined
+pub mint-tells :
+    {A : Type 0} (n base : ℕ) (es : List Entry) (number : ℕ) (k : MintAnswer → List Entry → A) (P : A → Type 0) →
+    ((a : MintAnswer) (after : List Entry) → Tells n base es number a after → P (k a after)) →
+    P (mintWith n base es number k)
+unfolding mintWith lowestFree
+mint-tells n base es number k P h =
+    all-found P (freeEntry n es) _ _
+    (λ e. h NoFreeEntry es (record { full = λ i l. none-free (isLive es) 0 (n - 0) e i (omega arith) (omega arith); unchanged = refl }))
+    (λ i e. h (Minted _) _ (record { at = i; place = lowest-at (isLive es) 0 n i e; answer = refl; entries = refl }))
+
+module _ {n base number : ℕ} {es after : List Entry} {c : CapId} (m : Accepted n base es number c after) where
+  -- the other entries are left as they were
+  pub others-left : (j : ℕ) → (j ≡ m .at → ⊥) → entryAt after j ≡ entryAt es j
+  others-left j d = rw (m .entries) (getD-set-other es (m .at) j _ noEntry d)
+
+  module _ (sized : length es ≡ n) where
+    pub minted-entry : entryAt after (m .at) ≡ mintedEntry (entryAt es (m .at)) number
+    minted-entry = let l = m .place .below in rw (m .entries) (getD-set-same es (m .at) _ noEntry (omega arith))
+
+    -- the id that was answered names the number that was stored
+    pub minted-names : base + n ≤ 65536 → lookupIn n after (At (m .at)) c ≡ Names number
+    minted-names h =
+        let l = m .place .below in
+        let g : generationOf c ≡ nextGeneration (entryAt es (m .at) .generation) = rw (m .answer) (generation-of-id _ _ (omega arith)) in
+        named-lookup n after (At (m .at)) c number
+        (record {
+          at = m .at;
+          there = refl;
+          below = l;
+          entry = record { live = rw minted-entry; same = rw (minted-entry, g); stored = rw minted-entry };
+        })
+
+    -- an id of the entry's last life names nothing any more
+    pub stale-refused : (d : CapId) (x : ℕ) → generationOf d ≡ entryAt es (m .at) .generation → lookupIn n after (At (m .at)) d ≡ Names x → ⊥
+    stale-refused d x g e =
+        let r = lookup-named n after (At (m .at)) d x e in
+        let q : m .at ≡ r .at = cc in
+        next-differs (entryAt es (m .at) .generation)
+        (sym (ap (λ (y : Entry). y .generation) minted-entry) ∙ (rw q (r .entry .same) ∙ g))
+
+    -- an id that named a number goes on naming it
+    pub names-on : (place : Place) (d : CapId) (x : ℕ) → lookupIn n es place d ≡ Names x → lookupIn n after place d ≡ Names x
+    names-on place d x e =
+        let r = lookup-named n es place d x e in
+        let w : entryAt after (r .at) ≡ entryAt es (r .at) = others-left (r .at) (λ q. busy q (r .entry .live)) in
+        named-lookup n after place d x
+        (record {
+          at = r .at;
+          there = r .there;
+          below = r .below;
+          entry = record { live = rw w (r .entry .live); same = rw w (r .entry .same); stored = rw w (r .entry .stored) };
+        })
+      where
+        busy : {j : ℕ} → j ≡ m .at → isLive es j ≡ true → ⊥
+        busy {j} q l =
+            let f : isLive es j ≡ false = rw q (m .place .free) in
+            let z : _≡_ {A = Bool} true false = sym l ∙ f in
+            let y : _≡_ {A = ℕ} 0 1 = cc in omega arith
