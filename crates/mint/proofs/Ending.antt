@@ -1,7 +1,7 @@
 -- What the end of a number changes and what it leaves: no id names that number any more, and every other names what it named. Assumes nothing.
 use mathlib.Core.Path.{_≡_, refl, sym, ap, _∙_}
 use mathlib.Core.Bool.{Bool, true, false, _&&_}
-use mathlib.Core.List.{List, map}
+use mathlib.Core.List.{List}
 use Prim.Native.Nat.{ℕ}
 use native.Mathlib.Omega.{arith}
 use borrow.Author.Tests.{eq-eqb, ne-eqb}
@@ -10,13 +10,12 @@ use lib.ListN.{List·getD-map}
 use Rattle.laws.specs.Pick.{pick}
 use Rattle.laws.specs.declared.Place.{Place}
 use Rattle.laws.proofs.Cases.{all-pick}
-use Rattle.cap.specs.Id.{generationOf}
 use Rattle.cap.specs.declared.CapId.{CapId}
 use Rattle.mint.specs.Entry.{noEntry, isOf, afterEnd}
 use Rattle.mint.specs.Entries.{entryAt, lookupIn, endedIn}
 use Rattle.mint.specs.declared.Entry.{Entry}
 use Rattle.mint.specs.declared.LookupAnswer.the-variants.{Names}
-use Rattle.mint.proofs.Named.{Named, Names-to, lookup-named, named-lookup}
+use Rattle.mint.proofs.Named.{lookup-named, named-lookup}
 
 -- each entry after the end is the one before, ended where it is the number's
 pub ended-at : (es : List Entry) (number i : ℕ) → entryAt (endedIn es number) i ≡ afterEnd number (entryAt es i)
@@ -58,7 +57,7 @@ module _ (n : ℕ) (es : List Entry) (number : ℕ) (place : Place) (c : CapId) 
       let r = lookup-named n (endedIn es number) place c number e in
       let w = ended-at es number (r .at) in
       let s : entryAt es (r .at) .number ≡ number =
-          sym (end-keeps number (entryAt es (r .at)) .1) ∙ (sym (ap (λ (y : Entry). y .number) w) ∙ r .entry .stored) in
+      sym (end-keeps number (entryAt es (r .at)) .1) ∙ (sym (ap (λ (y : Entry). y .number) w) ∙ r .entry .stored) in
       let f : _≡_ {A = Bool} true false = sym (r .entry .live) ∙ (ap (λ (y : Entry). y .live) w ∙ end-kills number (entryAt es (r .at)) s) in
       let z : _≡_ {A = ℕ} 0 1 = cc in omega arith
 
@@ -67,7 +66,7 @@ module _ (n : ℕ) (es : List Entry) (number : ℕ) (place : Place) (c : CapId) 
   ended-names-on x d e =
       let r = lookup-named n es place c x e in
       let w : entryAt (endedIn es number) (r .at) ≡ entryAt es (r .at) =
-          ended-at es number (r .at) ∙ end-spares number (entryAt es (r .at)) (λ q. d (sym (r .entry .stored) ∙ q)) in
+      ended-at es number (r .at) ∙ end-spares number (entryAt es (r .at)) (λ q. d (sym (r .entry .stored) ∙ q)) in
       named-lookup n (endedIn es number) place c x
       (record {
         at = r .at;

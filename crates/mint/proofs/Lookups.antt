@@ -1,5 +1,5 @@
 -- What a lookup answers at each of its tests. Assumes nothing.
-use mathlib.Core.Path.{_≡_, refl}
+use mathlib.Core.Path.{_≡_}
 use mathlib.Core.List.{List}
 use Prim.Native.Nat.{ℕ, _≤_, _<_}
 use borrow.Author.Tests.{lt-ltb, le-ltb}
@@ -12,7 +12,6 @@ use Rattle.cap.specs.declared.CapId.{CapId}
 use Rattle.mint.specs.Entry.{namesOf}
 use Rattle.mint.specs.Entries.{entryAt, lookupIn}
 use Rattle.mint.specs.declared.Entry.{Entry}
-use Rattle.mint.specs.declared.LookupAnswer.{LookupAnswer}
 use Rattle.mint.specs.declared.LookupAnswer.the-variants.{BadCap}
 
 module _ (n : ℕ) (es : List Entry) (c : CapId) {place : Place} where

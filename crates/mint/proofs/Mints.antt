@@ -9,13 +9,12 @@ use native.Mathlib.Nat.{eq-or-lt-of-le}
 use native.Mathlib.Omega.{arith}
 use lib.ListN.{length, set}
 use lib.Seq.{getD-set-same, getD-set-other}
-use Rattle.laws.specs.Pick.{pick}
 use Rattle.laws.specs.Place.{lowest, lowestFree}
 use Rattle.laws.specs.declared.Place.{Place}
 use Rattle.laws.specs.declared.Place.the-variants.{At, Nowhere}
 use Rattle.laws.proofs.Cases.{all-pick, all-found}
 use Rattle.laws.proofs.Search.{Lowest, lowest-at}
-use Rattle.cap.specs.Id.{idOf, indexOf, generationOf}
+use Rattle.cap.specs.Id.{idOf, generationOf}
 use Rattle.cap.specs.declared.CapId.{CapId}
 use Rattle.cap.proofs.Ids.{generation-of-id}
 use Rattle.mint.specs.Generation.{nextGeneration}
@@ -26,7 +25,7 @@ use Rattle.mint.specs.declared.MintAnswer.{MintAnswer}
 use Rattle.mint.specs.declared.MintAnswer.the-variants.{Minted, NoFreeEntry}
 use Rattle.mint.specs.declared.LookupAnswer.the-variants.{Names}
 use Rattle.mint.proofs.Generations.{next-differs}
-use Rattle.mint.proofs.Named.{Named, lookup-named, named-lookup}
+use Rattle.mint.proofs.Named.{lookup-named, named-lookup}
 
 -- a refused mint: every entry is live, and the entries stay
 pub record Refused (n : ℕ) (es after : List Entry) : Type 0 where

@@ -1,6 +1,6 @@
 -- A lookup names a number exactly when the place is in range and its entry is live, of the id's generation and stores it. Assumes nothing.
-use mathlib.Core.Path.{_≡_, refl, sym, ap, _∙_}
-use mathlib.Core.Bool.{Bool, true, false}
+use mathlib.Core.Path.{_≡_, ap}
+use mathlib.Core.Bool.{true}
 use mathlib.Core.List.{List}
 use Prim.Native.Nat.{ℕ, _<_}
 use native.Mathlib.Omega.{arith}
@@ -9,14 +9,13 @@ use lib.Dec.{eqb, ltb}
 use Rattle.laws.specs.Pick.{pick}
 use Rattle.laws.specs.Place.{found}
 use Rattle.laws.specs.declared.Place.{Place}
-use Rattle.laws.specs.declared.Place.the-variants.{At, Nowhere}
+use Rattle.laws.specs.declared.Place.the-variants.{At}
 use Rattle.laws.proofs.Cases.{all-pick, all-found}
 use Rattle.cap.specs.Id.{generationOf}
 use Rattle.cap.specs.declared.CapId.{CapId}
 use Rattle.mint.specs.Entry.{namesOf}
 use Rattle.mint.specs.Entries.{entryAt, lookupIn}
 use Rattle.mint.specs.declared.Entry.{Entry}
-use Rattle.mint.specs.declared.LookupAnswer.{LookupAnswer}
 use Rattle.mint.specs.declared.LookupAnswer.the-variants.{Names, BadCap}
 
 -- the entry e names the number x to ids of a generation
