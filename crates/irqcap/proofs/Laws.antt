@@ -1,18 +1,20 @@
 -- What callers of the IRQ table may rely on: its ids name its entries, and a minted id names the number it was minted for.
 -- Assumes nothing.
-use mathlib.Core.Path.{_≡_, ap, _∙_}
-use Prim.Native.Nat.{ℕ, _+_, _<_}
+use mathlib.Core.Path.{_≡_, refl, ap, _∙_}
+use Prim.Native.Nat.{ℕ, zero, suc, _+_, _<_}
 use native.Mathlib.Omega.{arith}
 use borrow.Author.Tests.{eq-eqb, ne-eqb}
 use lib.ListN.{length}
 use Rattle.laws.specs.Pick.{pick}
+use Rattle.laws.specs.Place.{found, lowest, lowestFree}
 use Rattle.laws.specs.declared.Place.the-variants.{At}
 use Rattle.cap.specs.Id.{idOf, indexOf, bit, classOf}
 use Rattle.cap.specs.declared.CapId.{CapId}
-use Rattle.mint.specs.declared.MintAnswer.the-variants.{Minted}
+use Rattle.mint.specs.Entries.{mintWith}
+use Rattle.mint.specs.declared.MintAnswer.the-variants.{Minted, NoFreeEntry}
 use Rattle.mint.specs.declared.LookupAnswer.the-variants.{Names}
 use Rattle.mint.proofs.Mints.{Tells, Accepted, mint-tells, minted-names}
-use Rattle.irqcap.specs.Table.{mintOf, lookupOf, irqPlace}
+use Rattle.irqcap.specs.Table.{freshTable, mintOf, lookupOf, irqPlace}
 use Rattle.irqcap.specs.declared.Table.{Table}
 use Rattle.irqcap.specs.declared.Minted.{Minted as Outcome}
 
@@ -37,3 +39,13 @@ minted-lookup t number c s e =
     let m : Accepted 8 32768 (t .entries) number c (mintOf t number .table .entries) = rw e at (mint-says t number) in
     let l = m .place .below in
     rw (ap (λ (d : CapId). irqPlace (classOf d)) (m .answer) ∙ irq-place (m .at) _ (omega arith)) (minted-names m s (omega arith))
+
+-- the table after k mints from a fresh one
+unfoldable pub afterMints : (ℕ → ℕ) → ℕ → Table
+afterMints cookie zero = freshTable
+afterMints cookie (suc k) = mintOf (afterMints cookie k) (cookie k) .table
+
+-- the ninth mint finds no free entry
+pub ninth-mint : (cookie : ℕ → ℕ) (ninth : ℕ) → mintOf (afterMints cookie 8) ninth .answer ≡ NoFreeEntry
+unfolding afterMints mintOf mintWith lowestFree lowest found pick
+ninth-mint cookie ninth = refl

@@ -13,6 +13,7 @@ use Rattle.mint.specs.declared.LookupAnswer.{LookupAnswer}
 use Rattle.irqcap.specs.declared.Table.{Table}
 use Rattle.irqcap.specs.declared.Minted.{Minted}
 
+-- a table in which nothing was minted
 abbrev pub freshTable : Table
 freshTable = record { entries = replicate 8 noEntry }
 

@@ -25,24 +25,28 @@ module _ (number : ℕ) (before : List Entry) where
     next : entryAt es i ≡ entryAt before i
     next = rw (so-far .entries) (through-at (afterEnd number) noEntry i before)
 
-    pub ended-yes : isOf (entryAt es i) number ≡ true → Ended number before (i + 1) (set es i (endedEntry (entryAt es i))) (counted + 1)
+    pub ended-yes :
+        {after : List Entry} {raised : ℕ} → isOf (entryAt es i) number ≡ true → after ≡ set es i (endedEntry (entryAt es i)) →
+        raised ≡ counted + 1 → Ended number before (i + 1) after raised
     unfolding afterEnd pick
-    ended-yes y =
+    ended-yes y a r =
         let h : isOf (entryAt before i) number ≡ true = rw (← next) y in
         let s : afterEnd number (entryAt before i) ≡ endedEntry (entryAt before i) = rw h in
         record {
-          entries = rw (next, so-far .entries, ← s) (through-store (afterEnd number) noEntry i before);
-          counts = count-yes _ i counted (so-far .counts) h;
+          entries = rw (a, next, so-far .entries, ← s) (through-store (afterEnd number) noEntry i before);
+          counts = r ∙ count-yes _ i counted (so-far .counts) h;
         }
 
-    pub ended-no : isOf (entryAt es i) number ≡ false → Ended number before (i + 1) es counted
+    pub ended-no :
+        {after : List Entry} {raised : ℕ} → isOf (entryAt es i) number ≡ false → after ≡ es → raised ≡ counted →
+        Ended number before (i + 1) after raised
     unfolding afterEnd pick
-    ended-no n =
+    ended-no n a r =
         let h : isOf (entryAt before i) number ≡ false = rw (← next) n in
         let s : afterEnd number (entryAt before i) ≡ entryAt before i = rw h in
         record {
-          entries = so-far .entries ∙ through-leave (afterEnd number) noEntry i before s;
-          counts = count-no _ i counted (so-far .counts) h;
+          entries = a ∙ (so-far .entries ∙ through-leave (afterEnd number) noEntry i before s);
+          counts = r ∙ count-no _ i counted (so-far .counts) h;
         }
 
   pub ended-all : (n : ℕ) {es : List Entry} {counted : ℕ} → length before ≤ n → Ended number before n es counted → es ≡ endedIn before number

@@ -69,6 +69,18 @@ module _ {n base number : ℕ} {es after : List Entry} {c : CapId} (m : Accepted
   pub others-left : (j : ℕ) → (j ≡ m .at → ⊥) → entryAt after j ≡ entryAt es j
   others-left j d = rw (m .entries) (getD-set-other es (m .at) j _ noEntry d)
 
+  busy : {j : ℕ} → isLive es j ≡ true → j ≡ m .at → ⊥
+  busy {j} l q =
+      let f : isLive es j ≡ false = rw q (m .place .free) in
+      let z : _≡_ {A = Bool} true false = sym l ∙ f in
+      let y : _≡_ {A = ℕ} 0 1 = cc in omega arith
+
+  -- the id that was answered named nothing before
+  pub minted-was-unnamed : (x : ℕ) → lookupIn n es (At (m .at)) c ≡ Names x → ⊥
+  minted-was-unnamed x e =
+      let r = lookup-named n es (At (m .at)) c x e in
+      busy (r .entry .live) (let q : m .at ≡ r .at = cc in sym q)
+
   module _ (sized : length es ≡ n) where
     pub minted-entry : entryAt after (m .at) ≡ mintedEntry (entryAt es (m .at)) number
     minted-entry = let l = m .place .below in rw (m .entries) (getD-set-same es (m .at) _ noEntry (omega arith))
@@ -98,7 +110,7 @@ module _ {n base number : ℕ} {es after : List Entry} {c : CapId} (m : Accepted
     pub names-on : (place : Place) (d : CapId) (x : ℕ) → lookupIn n es place d ≡ Names x → lookupIn n after place d ≡ Names x
     names-on place d x e =
         let r = lookup-named n es place d x e in
-        let w : entryAt after (r .at) ≡ entryAt es (r .at) = others-left (r .at) (λ q. busy q (r .entry .live)) in
+        let w : entryAt after (r .at) ≡ entryAt es (r .at) = others-left (r .at) (busy (r .entry .live)) in
         named-lookup n after place d x
         (record {
           at = r .at;
@@ -106,9 +118,3 @@ module _ {n base number : ℕ} {es after : List Entry} {c : CapId} (m : Accepted
           below = r .below;
           entry = record { live = rw w (r .entry .live); same = rw w (r .entry .same); stored = rw w (r .entry .stored) };
         })
-      where
-        busy : {j : ℕ} → j ≡ m .at → isLive es j ≡ true → ⊥
-        busy {j} q l =
-            let f : isLive es j ≡ false = rw q (m .place .free) in
-            let z : _≡_ {A = Bool} true false = sym l ∙ f in
-            let y : _≡_ {A = ℕ} 0 1 = cc in omega arith

@@ -22,6 +22,7 @@ use Rattle.mint.specs.declared.LookupAnswer.the-variants.{BadCap}
 abbrev pub entryAt : List Entry → ℕ → Entry
 entryAt es i = getD es i noEntry
 
+-- entry i is in use
 abbrev pub isLive : List Entry → ℕ → Bool
 isLive es i = entryAt es i .live
 

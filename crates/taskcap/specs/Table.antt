@@ -14,6 +14,7 @@ use Rattle.taskcap.specs.declared.Table.{Table}
 use Rattle.taskcap.specs.declared.Minted.{Minted}
 use Rattle.taskcap.specs.declared.Revoked.{Revoked}
 
+-- a table in which nothing was minted
 abbrev pub freshTable : Table
 freshTable = record { entries = replicate 32 noEntry }
 

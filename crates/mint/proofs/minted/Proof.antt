@@ -1,5 +1,5 @@
 -- `mint::minted` meets its contract, by what `next_generation` ensures. Assumes nothing.
-use mathlib.Core.Path.{refl}
+use Rattle.laws.proofs.Cases.{cases}
 use borrow.Author.Needs.{needs}
 use Rattle.mint.proofs.minted.Statement.{statement}
 use Rattle.mint.proofs.minted.Tie as tie
@@ -8,7 +8,7 @@ next-generation-requires : tie.Need-next-generation-requires
 next-generation-requires c κs = search needs
 
 returns : tie.Need-returns
-returns c = rw (← c .next-generation .ensures) refl
+returns c = rw (← c .next-generation .ensures) (search cases)
 
 pub minted-spec : {M : Type 1} → statement M
 minted-spec = tie.close (tie.spec next-generation-requires returns)

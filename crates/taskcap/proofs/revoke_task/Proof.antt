@@ -63,13 +63,15 @@ loop-less : tie.Need-loop-less Inv-loop μ-loop
 loop-less c = search needs
 
 loop-again : tie.Need-loop-again Inv-loop μ-loop
-loop-again c = (
-  search needs,
-  ⊎-elim
-      (λ w. rw (w .2, w .3, w .1 .ensures) (ended-yes _ _ _ (c .before .before .before .before .loop .inv .1) (sym (c .before .is-of .ensures) ∙ w .0 .taken)))
-      (λ w. rw (w .1, w .2) (ended-no _ _ _ (c .before .before .before .before .loop .inv .1) (sym (c .before .is-of .ensures) ∙ w .0 .left)))
-      (c .if1 .came),
-)
+loop-again c =
+    let so-far = c .before .before .before .before .loop .inv .1 in
+    let is-of = c .before .is-of .ensures in (
+      search needs,
+      ⊎-elim
+          (λ w. ended-yes _ _ _ so-far (sym is-of ∙ w .0 .taken) (rw (w .2, w .1 .ensures)) (omega arith))
+          (λ w. ended-no _ _ _ so-far (sym is-of ∙ w .0 .left) (rw (w .1)) (omega arith))
+          (c .if1 .came),
+    )
 
 returns : tie.Need-returns Inv-loop μ-loop
 returns c =
