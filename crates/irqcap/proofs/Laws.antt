@@ -22,7 +22,8 @@ use Rattle.irqcap.specs.declared.Minted.{Minted as Outcome}
 pub irq-place : (i g : ℕ) → i < 16384 → irqPlace (classOf (idOf (32768 + i) g)) ≡ At i
 unfolding irqPlace classOf pick
 irq-place i g h =
-    rw (eq-eqb (bit 15 (indexOf (idOf (32768 + i) g))) 1 (omega arith), ne-eqb (bit 14 (indexOf (idOf (32768 + i) g))) 1 (λ q. omega arith)) (ap At (omega arith))
+    let index = indexOf (idOf (32768 + i) g) in
+    rw (eq-eqb (bit 15 index) 1 (omega arith), ne-eqb (bit 14 index) 1 (λ q. omega arith)) (ap At (omega arith))
 
 -- what a mint's answer says of the table afterwards
 pub mint-says : (t : Table) (number : ℕ) → Tells 8 32768 (t .entries) number (mintOf t number .answer) (mintOf t number .table .entries)
@@ -31,6 +32,7 @@ mint-says t number =
     mint-tells 8 32768 (t .entries) number _ (λ (r : Outcome). Tells 8 32768 (t .entries) number (r .answer) (r .table .entries))
     (λ a after h. h)
 
+-- the id that a mint answered names the number in the table afterwards
 pub minted-lookup :
     (t : Table) (number : ℕ) (c : CapId) → length (t .entries) ≡ 8 → mintOf t number .answer ≡ Minted c →
     lookupOf (mintOf t number .table) c ≡ Names number

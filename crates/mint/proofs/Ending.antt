@@ -22,7 +22,7 @@ pub ended-at : (es : List Entry) (number i : ℕ) → entryAt (endedIn es number
 unfolding afterEnd pick
 ended-at es number i = List·getD-map (afterEnd number) es i noEntry
 
--- the end keeps generation and number, and makes no entry live
+-- the end keeps generation and number
 pub end-keeps : (number : ℕ) (e : Entry) → (afterEnd number e .generation ≡ e .generation) × (afterEnd number e .number ≡ e .number)
 unfolding afterEnd
 end-keeps number e =

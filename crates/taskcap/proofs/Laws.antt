@@ -21,7 +21,8 @@ use Rattle.taskcap.specs.declared.Minted.{Minted as Outcome}
 pub task-place : (i g : ℕ) → i < 16384 → taskPlace (classOf (idOf (16384 + i) g)) ≡ At i
 unfolding taskPlace classOf pick
 task-place i g h =
-    rw (ne-eqb (bit 15 (indexOf (idOf (16384 + i) g))) 1 (λ q. omega arith), eq-eqb (bit 14 (indexOf (idOf (16384 + i) g))) 1 (omega arith)) (ap At (omega arith))
+    let index = indexOf (idOf (16384 + i) g) in
+    rw (ne-eqb (bit 15 index) 1 (λ q. omega arith), eq-eqb (bit 14 index) 1 (omega arith)) (ap At (omega arith))
 
 -- what a mint's answer says of the table afterwards
 pub mint-says : (t : Table) (number : ℕ) → Tells 32 16384 (t .entries) number (mintOf t number .answer) (mintOf t number .table .entries)
@@ -30,6 +31,7 @@ mint-says t number =
     mint-tells 32 16384 (t .entries) number _ (λ (r : Outcome). Tells 32 16384 (t .entries) number (r .answer) (r .table .entries))
     (λ a after h. h)
 
+-- the id that a mint answered names the number in the table afterwards
 pub minted-lookup :
     (t : Table) (number : ℕ) (c : CapId) → length (t .entries) ≡ 32 → mintOf t number .answer ≡ Minted c →
     lookupOf (mintOf t number .table) c ≡ Names number
