@@ -3,4 +3,5 @@ pub mod Search
 pub mod Every
 pub mod Lists
 pub mod Through
+pub mod Sweep
 pub mod Same

@@ -5,3 +5,7 @@ use mathlib.Core.Bool.{Bool, true, false}
 unfoldable pub pick : {A : Type 0} → Bool → A → A → A
 pick true a b = a
 pick false a b = b
+
+-- an element changed where a test holds of it
+abbrev pub changeIf : {A : Type 0} → (A → Bool) → (A → A) → A → A
+changeIf test change x = pick (test x) (change x) x

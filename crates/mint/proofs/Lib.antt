@@ -1,7 +1,5 @@
 pub mod Generations
 pub mod Lookups
-pub mod Through
-pub mod Ends
 pub mod Named
 pub mod Mints
 pub mod Ending

@@ -91,7 +91,8 @@ pub fn release_holds(mut t: Table, slots: [Slot; 4]) -> Releasing
         };
         let mut b = fewer(t.mailboxes[k]);
         if reaps(b) {
-            waiters[woken] = b.waiter;
+            let waiter = b.waiter;
+            waiters[woken] = waiter;
             woken += 1;
             b.waiter = nobody;
             t.mailboxes[k] = b;

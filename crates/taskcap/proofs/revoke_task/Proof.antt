@@ -1,18 +1,25 @@
 -- `taskcap::revoke_task` meets its contract. The loop's invariant: the first `i` entries are ended where they are the task's, and counted.
 -- Assumes nothing.
 use mathlib.Core.Path.{_≡_, sym, _∙_}
-use mathlib.Core.List.{List, map}
+use mathlib.Core.List.{List}
 use mathlib.Core.Logic.{⊎-elim}
 use Prim.Native.Nat.{ℕ, _-_, _≤_}
 use native.Mathlib.Omega.{arith}
 use borrow.Author.Needs.{needs}
-use lib.ListN.{length, length-map}
-use Rattle.mint.proofs.Ends.{Ended, ended-none, ended-yes, ended-no, ended-few, ended-all}
+use lib.ListN.{length}
+use Rattle.laws.proofs.Lists.{unmapped}
+use Rattle.laws.proofs.Sweep.{Swept, swept-none, swept-yes, swept-no, swept-few, swept-all}
+use Rattle.mint.specs.Entry.{noEntry, isOf, endedEntry, afterEnd}
+use Rattle.mint.specs.declared.Entry.{Entry}
 use Rattle.taskcap.specs.Table.{revokeOf}
 use Rattle.taskcap.specs.declared.Table.{Table}
 use Rattle.taskcap.specs.declared.Revoked.{Revoked}
 use Rattle.taskcap.proofs.revoke_task.Statement.{statement}
 use Rattle.taskcap.proofs.revoke_task.Tie as tie
+
+-- the first i entries of a list are ended where they are the task's, and counted
+abbrev Ended : ℕ → List Entry → ℕ → List Entry → ℕ → Type 0
+Ended task = Swept (λ e. isOf e task) endedEntry noEntry
 
 abbrev Inv-loop : tie.InvT-loop
 Inv-loop task t₀ count₀ i₀ t count i = (i ≤ 32) × Ended task (t₀ .entries) i (t .entries) count
@@ -20,20 +27,17 @@ Inv-loop task t₀ count₀ i₀ t count i = (i ≤ 32) × Ended task (t₀ .ent
 abbrev μ-loop : tie.MeasureT-loop
 μ-loop task t₀ count₀ i₀ t count i = 32 - i
 
-unmapped : (X Y : Type 0) (f : X → Y) (l : List X) (n : ℕ) → length (map f l) ≡ n → length l ≡ n
-unmapped X Y f l n p = sym (length-map l f) ∙ p
-
 whole : (c : tie.Start Inv-loop μ-loop) → length (c .args .t1 .entries) ≡ 32
 whole c = search (needs, unmapped)
 
 revoked :
-    {t₀ t : Table} {task n : ℕ} → length (t₀ .entries) ≤ 32 → Ended task (t₀ .entries) 32 (t .entries) n →
+    (task : ℕ) {t₀ t : Table} {n : ℕ} → length (t₀ .entries) ≤ 32 → Ended task (t₀ .entries) 32 (t .entries) n →
     _≡_ {A = Revoked} (record { count = n; table = t }) (revokeOf t₀ task)
-unfolding revokeOf
-revoked h e = rw (← e .counts, ← ended-all _ _ 32 h e)
+unfolding revokeOf afterEnd
+revoked task h e = rw (← e .counts, ← swept-all _ _ _ _ 32 h e)
 
 loop-holds : tie.Need-loop-holds Inv-loop μ-loop
-loop-holds c = (search needs, ended-none _ _)
+loop-holds c = (search needs, swept-none _ _ _ _)
 
 mul-e : tie.Need-mul-e Inv-loop μ-loop
 mul-e c = search needs
@@ -54,7 +58,7 @@ element-set-from-t : tie.Need-element-set-from-t Inv-loop μ-loop
 element-set-from-t c = search needs
 
 add-count : tie.Need-add-count Inv-loop μ-loop
-add-count c = omega (arith, ended-few (c .before .before .before .before .before .loop .inv .1))
+add-count c = omega (arith, swept-few _ _ _ _ (c .before .before .before .before .before .loop .inv .1))
 
 add-i : tie.Need-add-i Inv-loop μ-loop
 add-i c = search needs
@@ -68,15 +72,15 @@ loop-again c =
     let is-of = c .before .is-of .ensures in (
       search needs,
       ⊎-elim
-          (λ w. ended-yes _ _ _ so-far (sym is-of ∙ w .0 .taken) (rw (w .2, w .1 .ensures)) (omega arith))
-          (λ w. ended-no _ _ _ so-far (sym is-of ∙ w .0 .left) (rw (w .1)) (omega arith))
+          (λ w. swept-yes _ _ _ _ _ so-far (sym is-of ∙ w .0 .taken) (rw (w .2, w .1 .ensures)) (omega arith))
+          (λ w. swept-no _ _ _ _ _ so-far (sym is-of ∙ w .0 .left) (rw (w .1)) (omega arith))
           (c .if1 .came),
     )
 
 returns : tie.Need-returns Inv-loop μ-loop
 returns c =
     let e : c .before .loop .i ≡ 32 = omega arith in
-    revoked (omega (arith, whole (c .before .before))) (rw e at (c .before .loop .inv .1))
+    revoked _ (omega (arith, whole (c .before .before))) (rw e at (c .before .loop .inv .1))
 
 pub revoke-task-spec : {M : Type 1} → statement M
 revoke-task-spec =

@@ -1,3 +1,7 @@
+use mathlib.Core.Path.{ap}
+use Prim.Native.Nat.{ℕ}
+use native.Mathlib.Omega.{arith}
+use Rattle.ipc.specs.State.{withHolders}
 use borrow.Author.Needs.{needs}
 use Rattle.ipc.proofs.inner.holds.fewer.Statement.{statement}
 use Rattle.ipc.proofs.inner.holds.fewer.Tie as tie
@@ -14,7 +18,7 @@ returns c = search needs
 
 -- src/inner/holds.rt:26:1
 returns-2 : tie.Need-returns-2
-returns-2 c = ?
+returns-2 c = ap (λ (n : ℕ). withHolders (c .before .before .args .b) n) (omega arith)
 
 pub fewer-spec : {M : Type 1} → statement M
 fewer-spec = tie.close (tie.spec sub-b returns returns-2)

@@ -1,3 +1,4 @@
+use Rattle.ipc.specs.Holds.{more}
 use borrow.Author.Needs.{needs}
 use Rattle.ipc.proofs.inner.holds.more.Statement.{statement}
 use Rattle.ipc.proofs.inner.holds.more.Tie as tie
@@ -11,7 +12,7 @@ raised-requires c κs = search needs
 
 -- src/inner/holds.rt:19:1
 returns : tie.Need-returns
-returns c = ?
+returns c = rw (c .raised .ensures)
 
 pub more-spec : {M : Type 1} → statement M
 more-spec = tie.close (tie.spec raised-requires returns)

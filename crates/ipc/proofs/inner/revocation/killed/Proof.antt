@@ -1,3 +1,5 @@
+use Rattle.laws.proofs.Cases.{cases}
+use Rattle.ipc.specs.Revoke.{killed}
 use borrow.Author.Needs.{needs}
 use Rattle.ipc.proofs.inner.revocation.killed.Statement.{statement}
 use Rattle.ipc.proofs.inner.revocation.killed.Tie as tie
@@ -10,11 +12,13 @@ cast-if1 c = search needs
 
 -- src/inner/revocation.rt:27:9
 returns : tie.Need-returns
-returns c = ?
+unfolding killed
+returns c = search cases
 
 -- src/inner/revocation.rt:22:1
 returns-2 : tie.Need-returns-2
-returns-2 c = ?
+unfolding killed
+returns-2 c = search cases
 
 pub killed-spec : {M : Type 1} → statement M
 killed-spec = tie.close (tie.spec cast-if1 returns returns-2)
