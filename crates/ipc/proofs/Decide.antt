@@ -10,37 +10,39 @@ use Rattle.laws.proofs.Every.{and-left, and-right}
 use Rattle.ipc.specs.State.{Shape}
 use Rattle.ipc.specs.Make.{inRange}
 use Rattle.ipc.specs.Sound.{Sound}
-use Rattle.ipc.specs.SoundTest.{placeOk, endpointOk, mailboxOk, soundTest}
+use Rattle.ipc.specs.SoundTest.{placeOk, soundTest}
 use Rattle.ipc.specs.declared.state.Mailbox.{Mailbox}
 use Rattle.ipc.specs.declared.state.Table.{Table}
 use Rattle.ipc.proofs.Bools.{true-false, and-four}
 use Rattle.ipc.proofs.Fresh.{in-range-of, of-in-range}
 use Rattle.ipc.proofs.DecidePlaces.{fresh-place, places-pass}
-use Rattle.ipc.proofs.DecideEndpoints.{known-of, endpoints-pass}
-use Rattle.ipc.proofs.DecideMailboxes.{kind-of, mailboxes-pass}
+use Rattle.ipc.proofs.DecideEndpoints as endpoints
+use Rattle.ipc.proofs.DecideMailboxes as mailboxes
 
 -- the test's parts
 record Parts (t : Table) : Type 0 where
   pub sizes : inRange (t .sizes) ≡ true
   pub next : not (eqb (t .«next_gen») 0) ≡ true
+  pub endpoints : every (endpoints.passing t) 64 ≡ true
+  pub mailboxes : every (mailboxes.passing t) 32 ≡ true
   pub places : every (placeOk t) 256 ≡ true
-  pub endpoints : every (endpointOk t) 64 ≡ true
-  pub mailboxes : every (mailboxOk t) 32 ≡ true
 
 parts : (t : Table) → soundTest t ≡ true → Parts t
 unfolding soundTest
 parts t h =
     let next = not (eqb (t .«next_gen») 0) in
-    let rest = next && every (placeOk t) 256 && every (endpointOk t) 64 && every (mailboxOk t) 32 in
-    let p = and-four next (every (placeOk t) 256) (every (endpointOk t) 64) (every (mailboxOk t) 32) (and-right (inRange (t .sizes)) rest h) in
-    record { sizes = and-left (inRange (t .sizes)) rest h; next = p .0; places = p .1; endpoints = p .2; mailboxes = p .3 }
+    let ends = every (endpoints.passing t) 64 in
+    let boxes = every (mailboxes.passing t) 32 in
+    let rest = next && ends && boxes && every (placeOk t) 256 in
+    let p = and-four next ends boxes (every (placeOk t) 256) (and-right (inRange (t .sizes)) rest h) in
+    record { sizes = and-left (inRange (t .sizes)) rest h; next = p .0; endpoints = p .1; mailboxes = p .2; places = p .3 }
 
 -- a table that passes the test is sound
 pub sound-of : (t : Table) → Shape t → soundTest t ≡ true → Sound t
 sound-of t shape h =
     let p = parts t h in
-    let known = known-of t shape (p .endpoints) in
-    let kind = kind-of t shape known (p .mailboxes) in
+    let known = endpoints.known-of t shape (p .endpoints) in
+    let kind = mailboxes.kind-of t shape known (p .mailboxes) in
     record {
       shape = shape;
       sizes = in-range-of (t .sizes) (p .sizes);
@@ -61,4 +63,4 @@ sound-of t shape h =
 pub test-of : (t : Table) → Sound t → soundTest t ≡ true
 unfolding soundTest
 test-of t σ =
-    simp (of-in-range (t .sizes) (σ .sizes), ne-eqb _ _ (σ .next), places-pass t σ, endpoints-pass t σ, mailboxes-pass t σ)
+    simp (of-in-range (t .sizes) (σ .sizes), ne-eqb _ _ (σ .next), places-pass t σ, endpoints.endpoints-pass t σ, mailboxes.mailboxes-pass t σ)

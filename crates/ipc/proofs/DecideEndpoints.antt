@@ -22,6 +22,10 @@ use Rattle.ipc.proofs.Elements.{fresh-endpoint}
 use Rattle.ipc.proofs.Last.{last-of}
 use Rattle.ipc.proofs.Shapes.{past, end-below}
 
+-- the test of endpoint i
+abbrev pub passing : Table → ℕ → Bool
+passing t = endpointOk (t .sizes .endpoints) (t .endpoints) (t .mailboxes)
+
 -- the last end with endpoint i's right of the mailbox that it names
 abbrev lastLike : Table → ℕ → ℕ
 lastLike t i = lastEnd (t .endpoints) (endpointAt t i .rights) (endpointAt t i .mailbox) 64
@@ -34,7 +38,7 @@ pub record Known (t : Table) (i : ℕ) : Type 0 where
 rights-are : (e : Endpoint) (w : CapRights) → eqb (e .rights .bits) (w .bits) ≡ true → e .rights ≡ w
 rights-are e w h = λ j. record { bits = eqb-true (e .rights .bits) (w .bits) h j }
 
-module _ (t : Table) (i : ℕ) (h : endpointOk t i ≡ true) where
+module _ (t : Table) (i : ℕ) (h : passing t i ≡ true) where
   abbrev e : Endpoint
   e = endpointAt t i
 
@@ -42,10 +46,10 @@ module _ (t : Table) (i : ℕ) (h : endpointOk t i ≡ true) where
   below = ltb i (t .sizes .endpoints)
 
   abbrev as-send : Bool
-  as-send = eqb (e .rights .bits) (sendRight .bits) && eqb (sendEnd t (e .mailbox)) i
+  as-send = eqb (e .rights .bits) (sendRight .bits) && eqb (sendEnd (t .endpoints) (e .mailbox)) i
 
   abbrev as-recv : Bool
-  as-recv = eqb (e .rights .bits) (receiveRight .bits) && eqb (recvEnd t (e .mailbox)) i
+  as-recv = eqb (e .rights .bits) (receiveRight .bits) && eqb (recvEnd (t .endpoints) (e .mailbox)) i
 
   alive : e .live ≡ true → (below ≡ true) × (mailboxLive t (e .mailbox) ≡ true) × ((as-send || as-recv) ≡ true)
   unfolding endpointOk endpointTest
@@ -63,11 +67,11 @@ module _ (t : Table) (i : ℕ) (h : endpointOk t i ≡ true) where
   is-one v =
       ⊎-elim
       (λ s.
-      let r = rights-are e sendRight (and-left (eqb (e .rights .bits) 1) (eqb (sendEnd t (e .mailbox)) i) s) in
-      (inl r, rw r (eqb-true _ _ (and-right (eqb (e .rights .bits) 1) (eqb (sendEnd t (e .mailbox)) i) s))))
+      let r = rights-are e sendRight (and-left (eqb (e .rights .bits) 1) (eqb (sendEnd (t .endpoints) (e .mailbox)) i) s) in
+      (inl r, rw r (eqb-true _ _ (and-right (eqb (e .rights .bits) 1) (eqb (sendEnd (t .endpoints) (e .mailbox)) i) s))))
       (λ s.
-      let r = rights-are e receiveRight (and-left (eqb (e .rights .bits) 2) (eqb (recvEnd t (e .mailbox)) i) s) in
-      (inr r, rw r (eqb-true _ _ (and-right (eqb (e .rights .bits) 2) (eqb (recvEnd t (e .mailbox)) i) s))))
+      let r = rights-are e receiveRight (and-left (eqb (e .rights .bits) 2) (eqb (recvEnd (t .endpoints) (e .mailbox)) i) s) in
+      (inr r, rw r (eqb-true _ _ (and-right (eqb (e .rights .bits) 2) (eqb (recvEnd (t .endpoints) (e .mailbox)) i) s))))
       (or-cases as-send as-recv (alive v .2))
 
   known-below : Known t i
@@ -81,9 +85,9 @@ module _ (t : Table) (i : ℕ) (h : endpointOk t i ≡ true) where
         last = λ v. is-one v .1;
       }
 
-pub known-of : (t : Table) → Shape t → every (endpointOk t) 64 ≡ true → (i : ℕ) → Known t i
+pub known-of : (t : Table) → Shape t → every (passing t) 64 ≡ true → (i : ℕ) → Known t i
 known-of t shape h i =
-    ⊎-elim (λ l. known-below t i (every-at (endpointOk t) 64 h i l))
+    ⊎-elim (λ l. known-below t i (every-at (passing t) 64 h i l))
     (λ g.
     let f = past (t .endpoints) freshEndpoint 64 i (shape .endpoints) g in
     let none : (endpointLive t i ≡ true → ⊥) = λ v. true-false v (ap (λ (x : Endpoint). x .live) f) in
@@ -118,23 +122,23 @@ module _ (t : Table) (σ : Sound t) (i : ℕ) where
   ends : endpointLive t i ≡ true → Ends (t .endpoints) (endpointAt t i .mailbox)
   ends v = σ .ends (endpointAt t i .mailbox) (σ .names i v .live)
 
-  of-send : endpointLive t i ≡ true → endpointAt t i .rights ≡ sendRight → endpointOk t i ≡ true
+  of-send : endpointLive t i ≡ true → endpointAt t i .rights ≡ sendRight → passing t i ≡ true
   unfolding endpointOk endpointTest pick
   of-send v r =
       let bits : endpointAt t i .rights .bits ≡ 1 = ap (λ (x : CapRights). x .bits) r in
       simp (v, lt-ltb _ _ (in-size v), σ .names i v .live, bits, eq-eqb _ _ (is-last sendRight _ (ends v .one-send) v r))
 
-  of-recv : endpointLive t i ≡ true → endpointAt t i .rights ≡ receiveRight → endpointOk t i ≡ true
+  of-recv : endpointLive t i ≡ true → endpointAt t i .rights ≡ receiveRight → passing t i ≡ true
   unfolding endpointOk endpointTest pick
   of-recv v r =
       let bits : endpointAt t i .rights .bits ≡ 2 = ap (λ (x : CapRights). x .bits) r in
       simp (v, lt-ltb _ _ (in-size v), σ .names i v .live, bits, eq-eqb _ _ (is-last receiveRight _ (ends v .one-recv) v r))
 
-  passes : (v : Bool) → endpointLive t i ≡ v → endpointOk t i ≡ true
+  passes : (v : Bool) → endpointLive t i ≡ v → passing t i ≡ true
   unfolding endpointOk endpointTest pick
   passes true v = ⊎-elim (λ r. of-send v r) (λ r. of-recv v r) (σ .names i v .rights)
   passes false v =
       ⊎-elim (λ l. simp (v, lt-ltb i (t .sizes .endpoints) l)) (λ g. rw (σ .endpoints-past i g) (simp or-true)) (below? i (t .sizes .endpoints))
 
-pub endpoints-pass : (t : Table) → Sound t → every (endpointOk t) 64 ≡ true
-endpoints-pass t σ = at-every (endpointOk t) 64 (λ i _. passes t σ i _ refl)
+pub endpoints-pass : (t : Table) → Sound t → every (passing t) 64 ≡ true
+endpoints-pass t σ = at-every (passing t) 64 (λ i _. passes t σ i _ refl)

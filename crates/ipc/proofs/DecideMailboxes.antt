@@ -12,13 +12,17 @@ use Rattle.laws.proofs.Every.{every-at, at-every}
 use Rattle.cap.specs.Rights.{sendRight, receiveRight}
 use Rattle.ipc.specs.State.{Shape, freshMailbox, mailboxAt, mailboxLive, endpointAt}
 use Rattle.ipc.specs.Sound.{Ends, Ring, Sound}
-use Rattle.ipc.specs.SoundTest.{isFreshMailbox, sendEnd, recvEnd, ringTest, waiterTest, endsTestAt, mailboxTest, mailboxOk}
+use Rattle.ipc.specs.SoundTest.{isFreshMailbox, sendEnd, recvEnd, ringTest, waiterTest, endsOk, mailboxTest, mailboxOk}
 use Rattle.ipc.specs.declared.state.Mailbox.{Mailbox}
 use Rattle.ipc.specs.declared.state.Table.{Table}
 use Rattle.ipc.proofs.Bools.{true-false, either, below?, and-four, picked, not-picked}
 use Rattle.ipc.proofs.Elements.{fresh-mailbox, ring-of, of-ring, Waits, waits-of, of-waits}
 use Rattle.ipc.proofs.DecideEndpoints.{Known, one-end, end-found}
 use Rattle.ipc.proofs.Shapes.{past, end-below}
+
+-- the test of mailbox k
+abbrev pub passing : Table → ℕ → Bool
+passing t = mailboxOk (t .sizes .mailboxes) (t .sizes .depth) (t .endpoints) (t .mailboxes)
 
 -- mailbox k is a live one
 pub record Live (t : Table) (k : ℕ) : Type 0 where
@@ -29,20 +33,20 @@ pub record Live (t : Table) (k : ℕ) : Type 0 where
   pub waits : Waits (mailboxAt t k)
 
 module _ (t : Table) (known : (i : ℕ) → Known t i) (k : ℕ) where
-  ends-of : endsTestAt t (sendEnd t k) (recvEnd t k) ≡ true → Ends (t .endpoints) k
+  ends-of : endsOk (t .endpoints) (sendEnd (t .endpoints) k) (recvEnd (t .endpoints) k) ≡ true → Ends (t .endpoints) k
   ends-of h =
-      let g = endpointAt t (sendEnd t k) .generation in
-      let p = and-four (ltb (sendEnd t k) 64) (ltb (recvEnd t k) 64) (eqb g (endpointAt t (recvEnd t k) .generation)) (not (eqb g 0)) h in
+      let g = endpointAt t (sendEnd (t .endpoints) k) .generation in
+      let p = and-four (ltb (sendEnd (t .endpoints) k) 64) (ltb (recvEnd (t .endpoints) k) 64) (eqb g (endpointAt t (recvEnd (t .endpoints) k) .generation)) (not (eqb g 0)) h in
       record {
-        send = sendEnd t k;
-        recv = recvEnd t k;
+        send = sendEnd (t .endpoints) k;
+        recv = recvEnd (t .endpoints) k;
         one-send = one-end t known sendRight k (ltb-true _ _ (p .0));
         one-recv = one-end t known receiveRight k (ltb-true _ _ (p .1));
         one-generation = eqb-true _ _ (p .2);
         some-generation = eqb-false g 0 (not-true (eqb g 0) (p .3));
       }
 
-  kind : mailboxOk t k ≡ true → (mailboxAt t k ≡ freshMailbox) ⊎ Live t k
+  kind : passing t k ≡ true → (mailboxAt t k ≡ freshMailbox) ⊎ Live t k
   unfolding mailboxOk mailboxTest
   kind h = ⊎-elim (λ v. inr (live v)) (λ d. inl (fresh-mailbox b (not-picked (b .live) whole (isFreshMailbox b) h d))) (either (b .live))
     where
@@ -53,7 +57,7 @@ module _ (t : Table) (known : (i : ℕ) → Known t i) (k : ℕ) where
       below = ltb k (t .sizes .mailboxes)
 
       ends : Bool
-      ends = endsTestAt t (sendEnd t k) (recvEnd t k)
+      ends = endsOk (t .endpoints) (sendEnd (t .endpoints) k) (recvEnd (t .endpoints) k)
 
       ring : Bool
       ring = ringTest (t .sizes .depth) b
@@ -66,9 +70,9 @@ module _ (t : Table) (known : (i : ℕ) → Known t i) (k : ℕ) where
           let p = and-four below ends ring (waiterTest b) (picked (b .live) whole (isFreshMailbox b) h v) in
           record { live = v; below = ltb-true _ _ (p .0); ends = ends-of (p .1); ring = ring-of _ b (p .2); waits = waits-of b (p .3) }
 
-pub kind-of : (t : Table) → Shape t → ((i : ℕ) → Known t i) → every (mailboxOk t) 32 ≡ true → (k : ℕ) → (mailboxAt t k ≡ freshMailbox) ⊎ Live t k
+pub kind-of : (t : Table) → Shape t → ((i : ℕ) → Known t i) → every (passing t) 32 ≡ true → (k : ℕ) → (mailboxAt t k ≡ freshMailbox) ⊎ Live t k
 kind-of t shape known h k =
-    ⊎-elim (λ l. kind t known k (every-at (mailboxOk t) 32 h k l)) (λ g. inl (past (t .mailboxes) freshMailbox 32 k (shape .mailboxes) g)) (below? k 32)
+    ⊎-elim (λ l. kind t known k (every-at (passing t) 32 h k l)) (λ g. inl (past (t .mailboxes) freshMailbox 32 k (shape .mailboxes) g)) (below? k 32)
 
 -- ---- and back
 module _ (t : Table) (σ : Sound t) (k : ℕ) where
@@ -76,7 +80,7 @@ module _ (t : Table) (σ : Sound t) (k : ℕ) where
   in-size v =
       ⊎-elim (λ l. l) (λ g. absurd (true-false v (ap (λ (b : Mailbox). b .live) (σ .mailboxes-past k g)))) (below? k (t .sizes .mailboxes))
 
-  of-ends : Ends (t .endpoints) k → endsTestAt t (sendEnd t k) (recvEnd t k) ≡ true
+  of-ends : Ends (t .endpoints) k → endsOk (t .endpoints) (sendEnd (t .endpoints) k) (recvEnd (t .endpoints) k) ≡ true
   of-ends e =
       rw (end-found t (σ .shape) sendRight k (e .send) (e .one-send), end-found t (σ .shape) receiveRight k (e .recv) (e .one-recv))
       (simp (
@@ -95,10 +99,10 @@ module _ (t : Table) (σ : Sound t) (k : ℕ) where
   unfolding mailboxTest pick
   of-dead below ends v = rw (σ .dead k v)
 
-  passes : mailboxOk t k ≡ true
+  passes : passing t k ≡ true
   unfolding mailboxOk
   passes =
       ⊎-elim (λ v. of-live _ _ v (lt-ltb _ _ (in-size v)) (of-ends (σ .ends k v))) (λ d. of-dead _ _ d) (either (mailboxLive t k))
 
-pub mailboxes-pass : (t : Table) → Sound t → every (mailboxOk t) 32 ≡ true
-mailboxes-pass t σ = at-every (mailboxOk t) 32 (λ k _. passes t σ k)
+pub mailboxes-pass : (t : Table) → Sound t → every (passing t) 32 ≡ true
+mailboxes-pass t σ = at-every (passing t) 32 (λ k _. passes t σ k)

@@ -10,7 +10,7 @@ use Rattle.laws.specs.Pick.{pick}
 use Rattle.laws.specs.Every.{every}
 use Rattle.cap.specs.Rights.{sendRight, receiveRight}
 use Rattle.cap.specs.declared.CapRights.{CapRights}
-use Rattle.ipc.specs.State.{freshMessage, endIn, endpointAt, mailboxAt, mailboxLive}
+use Rattle.ipc.specs.State.{freshMessage, endIn, boxIn, boxLive, mailboxLive}
 use Rattle.ipc.specs.Make.{inRange}
 use Rattle.ipc.specs.declared.state.Endpoint.{Endpoint}
 use Rattle.ipc.specs.declared.state.Mailbox.{Mailbox}
@@ -52,11 +52,11 @@ lastEnd es w k zero = 64
 lastEnd es w k (suc n) = pick (isEnd (endIn es n) w k) n (lastEnd es w k n)
 
 -- the last of all 64
-abbrev pub sendEnd : Table → ℕ → ℕ
-sendEnd t k = lastEnd (t .endpoints) sendRight k 64
+abbrev pub sendEnd : List Endpoint → ℕ → ℕ
+sendEnd es k = lastEnd es sendRight k 64
 
-abbrev pub recvEnd : Table → ℕ → ℕ
-recvEnd t k = lastEnd (t .endpoints) receiveRight k 64
+abbrev pub recvEnd : List Endpoint → ℕ → ℕ
+recvEnd es k = lastEnd es receiveRight k 64
 
 -- at each mailbox's place stands its last end with the right w below n
 pub record Remembers (es : List Endpoint) (w : CapRights) (n : ℕ) (at : List ℕ) : Type 0 where
@@ -71,12 +71,11 @@ endpointTest e below named send recv =
     (below && named && (eqb (e .rights .bits) (sendRight .bits) && send || eqb (e .rights .bits) (receiveRight .bits) && recv))
     (below || isFreshEndpoint e)
 
-abbrev pub endpointTestAt : Table → Endpoint → ℕ → Bool
-endpointTestAt t e i =
-    endpointTest e (ltb i (t .sizes .endpoints)) (mailboxLive t (e .mailbox)) (eqb (sendEnd t (e .mailbox)) i) (eqb (recvEnd t (e .mailbox)) i)
-
-unfoldable pub endpointOk : Table → ℕ → Bool
-endpointOk t i = endpointTestAt t (endpointAt t i) i
+-- endpoint i of a table with n endpoints
+unfoldable pub endpointOk : ℕ → List Endpoint → List Mailbox → ℕ → Bool
+endpointOk n es bs i =
+    let e = endIn es i in
+    endpointTest e (ltb i n) (boxLive bs (e .mailbox)) (eqb (sendEnd es (e .mailbox)) i) (eqb (recvEnd es (e .mailbox)) i)
 
 -- ---- mailboxes
 -- a ring of depth d
@@ -95,13 +94,18 @@ endsTest s r g h = ltb s 64 && ltb r 64 && eqb g h && not (eqb g 0)
 unfoldable pub mailboxTest : Mailbox → Bool → Bool → ℕ → Bool
 mailboxTest b below ends d = pick (b .live) (below && ends && ringTest d b && waiterTest b) (isFreshMailbox b)
 
-abbrev pub endsTestAt : Table → ℕ → ℕ → Bool
-endsTestAt t s r = endsTest s r (endpointAt t s .generation) (endpointAt t r .generation)
+abbrev pub endsOk : List Endpoint → ℕ → ℕ → Bool
+endsOk es s r = endsTest s r (endIn es s .generation) (endIn es r .generation)
 
-unfoldable pub mailboxOk : Table → ℕ → Bool
-mailboxOk t k = mailboxTest (mailboxAt t k) (ltb k (t .sizes .mailboxes)) (endsTestAt t (sendEnd t k) (recvEnd t k)) (t .sizes .depth)
+-- mailbox k of a table with m mailboxes of depth d
+unfoldable pub mailboxOk : ℕ → ℕ → List Endpoint → List Mailbox → ℕ → Bool
+mailboxOk m d es bs k = mailboxTest (boxIn bs k) (ltb k m) (endsOk es (sendEnd es k) (recvEnd es k)) d
 
 -- ---- the table
 unfoldable pub soundTest : Table → Bool
 soundTest t =
-    inRange (t .sizes) && (not (eqb (t .«next_gen») 0) && every (placeOk t) 256 && every (endpointOk t) 64 && every (mailboxOk t) 32)
+    inRange (t .sizes)
+    && (not (eqb (t .«next_gen») 0)
+    && every (endpointOk (t .sizes .endpoints) (t .endpoints) (t .mailboxes)) 64
+    && every (mailboxOk (t .sizes .mailboxes) (t .sizes .depth) (t .endpoints) (t .mailboxes)) 32
+    && every (placeOk t) 256)

@@ -64,14 +64,14 @@ fn noted(s: Last, e: Endpoint, w: u8, i: usize) -> Last
 }
 
 // The last live end of each right that each mailbox has. One pass: an end that is not the last is a second.
-fn last_ends(t: Table) -> Ends
-    ensures { λ r. ⌜ Remembers (t .endpoints) sendRight 64 (r .send .at) × Remembers (t .endpoints) receiveRight 64 (r .recv .at) ⌝ }
+fn last_ends(es: [Endpoint; 64]) -> Ends
+    ensures { λ r. ⌜ Remembers es sendRight 64 (r .send .at) × Remembers es receiveRight 64 (r .recv .at) ⌝ }
 {
     let mut s = Last { at: [64u8; 32] };
     let mut r = Last { at: [64u8; 32] };
     let mut i: usize = 0;
     while i < 64 {
-        let e = t.endpoints[i];
+        let e = es[i];
         s = noted(s, e, 1, i);
         r = noted(r, e, 2, i);
         i += 1;
@@ -95,19 +95,18 @@ fn endpoint_test(e: Endpoint, below: bool, named: bool, send: bool, recv: bool) 
 }
 
 // A dead endpoint may name any number: the place that is read for it is not looked at.
-fn endpoints_ok(t: Table, l: Ends) -> bool
-    requires { ⌜ Remembers (t .endpoints) sendRight 64 (l .send .at) × Remembers (t .endpoints) receiveRight 64 (l .recv .at) ⌝ }
-    ensures { λ r. ⌜ r ≡ every (endpointOk t) 64 ⌝ }
+fn endpoints_ok(n: usize, es: [Endpoint; 64], bs: [Mailbox; 32], l: Ends) -> bool
+    requires { ⌜ Remembers es sendRight 64 (l .send .at) × Remembers es receiveRight 64 (l .recv .at) ⌝ }
+    ensures { λ r. ⌜ r ≡ every (endpointOk n es bs) 64 ⌝ }
 {
-    let n = t.sizes.endpoints;
     let send = l.send;
     let recv = l.recv;
     let mut ok = true;
     let mut i: usize = 0;
     while i < 64 {
-        let e = t.endpoints[i];
+        let e = es[i];
         let k = (e.mailbox % 32) as usize;
-        let b = t.mailboxes[k];
+        let b = bs[k];
         let named = (e.mailbox < 32) & b.live;
         ok = ok
             & endpoint_test(
@@ -177,22 +176,20 @@ fn mailbox_test(b: Mailbox, below: bool, ends: bool, d: usize) -> bool
     below & ends & ring_test(d, b) & waiter_test(b)
 }
 
-fn mailboxes_ok(t: Table, l: Ends) -> bool
-    requires { ⌜ Remembers (t .endpoints) sendRight 64 (l .send .at) × Remembers (t .endpoints) receiveRight 64 (l .recv .at) × (t .sizes .depth ≤ 8) ⌝ }
-    ensures { λ r. ⌜ r ≡ every (mailboxOk t) 32 ⌝ }
+fn mailboxes_ok(m: usize, d: usize, es: [Endpoint; 64], bs: [Mailbox; 32], l: Ends) -> bool
+    requires { ⌜ Remembers es sendRight 64 (l .send .at) × Remembers es receiveRight 64 (l .recv .at) × (d ≤ 8) ⌝ }
+    ensures { λ r. ⌜ r ≡ every (mailboxOk m d es bs) 32 ⌝ }
 {
-    let m = t.sizes.mailboxes;
-    let d = t.sizes.depth;
     let send = l.send;
     let recv = l.recv;
     let mut ok = true;
     let mut k: usize = 0;
     while k < 32 {
-        let b = t.mailboxes[k];
+        let b = bs[k];
         let s = wide(send.at[k]);
         let r = wide(recv.at[k]);
-        let se = t.endpoints[s % 64];
-        let re = t.endpoints[r % 64];
+        let se = es[s % 64];
+        let re = es[r % 64];
         let ends = ends_test(s, r, se.generation, re.generation);
         ok = ok & mailbox_test(b, k < m, ends, d);
         k += 1;
@@ -207,6 +204,11 @@ pub fn sound(t: Table) -> bool
     if !in_range(z) {
         return false;
     }
-    let l = last_ends(t);
-    !(t.next_gen == 0) & places_ok(t) & endpoints_ok(t, l) & mailboxes_ok(t, l)
+    let es = t.endpoints;
+    let bs = t.mailboxes;
+    let l = last_ends(es);
+    !(t.next_gen == 0)
+        & endpoints_ok(z.endpoints, es, bs, l)
+        & mailboxes_ok(z.mailboxes, z.depth, es, bs, l)
+        & places_ok(t)
 }

@@ -13,12 +13,12 @@ use Rattle.ipc.proofs.sound.endpoints_ok.Statement.{statement}
 use Rattle.ipc.proofs.sound.endpoints_ok.Tie as tie
 
 abbrev Inv-loop : tie.InvT-loop
-Inv-loop t n send recv ok₀ i₀ ok i = (i ≤ 64) × (ok ≡ every (endpointOk t) i)
+Inv-loop n es bs send recv ok₀ i₀ ok i = (i ≤ 64) × (ok ≡ every (endpointOk n es bs) i)
 
 abbrev μ-loop : tie.MeasureT-loop
-μ-loop t n send recv ok₀ i₀ ok i = 64 - i
+μ-loop n es bs send recv ok₀ i₀ ok i = 64 - i
 
-long : (c : tie.Start Inv-loop μ-loop) → length (c .args .t1 .mailboxes) ≡ 32
+long : (c : tie.Start Inv-loop μ-loop) → length (c .args .t3) ≡ 32
 long c = search (needs, unmapped)
 
 loop-holds : tie.Need-loop-holds Inv-loop μ-loop
@@ -27,8 +27,8 @@ loop-holds c = (omega arith, every-none _)
 mul-e : tie.Need-mul-e Inv-loop μ-loop
 mul-e c = search needs
 
-element-copy-out-e : tie.Need-element-copy-out-e Inv-loop μ-loop
-element-copy-out-e c = search needs
+array-copy-out-e : tie.Need-array-copy-out-e Inv-loop μ-loop
+array-copy-out-e c = search needs
 
 cast-k : tie.Need-cast-k Inv-loop μ-loop
 cast-k c = search needs
@@ -36,8 +36,8 @@ cast-k c = search needs
 mul-b : tie.Need-mul-b Inv-loop μ-loop
 mul-b c = search needs
 
-element-copy-out-b : tie.Need-element-copy-out-b Inv-loop μ-loop
-element-copy-out-b c = search needs
+array-copy-out-b : tie.Need-array-copy-out-b Inv-loop μ-loop
+array-copy-out-b c = search needs
 
 element-copy-out-wide : tie.Need-element-copy-out-wide Inv-loop μ-loop
 element-copy-out-wide c = search needs
@@ -61,18 +61,16 @@ loop-less : tie.Need-loop-less Inv-loop μ-loop
 loop-less c = search needs
 
 loop-again : tie.Need-loop-again Inv-loop μ-loop
-unfolding endpointOk
 loop-again c =
     let h = c .before .before .before .before .before .before .before .before .before .before .before in
     let turn = c .before .before .before .before .before .before .before .before .before .before in
     let start = c .before .before .before .before .before .before .before .before .before .before .before .before .before .before in
-    let t = start .args .t1 in
-    let l = start .args .l in (
+    let a = start .args in (
       omega arith,
-      every-step (endpointOk t) (h .loop .i) _ _ (h .loop .inv .1)
+      every-step (endpointOk (a .n) (a .t2) (a .t3)) (h .loop .i) _ _ (h .loop .inv .1)
           (c .endpoint-test .ensures
           ∙ rw (c .before .wide2 .ensures, c .before .before .before .wide .ensures)
-          (endpoint-read t (long start) (l .send .at) (l .recv .at) (start .pre .0) (start .pre .1) _ (h .loop .i))),
+          (endpoint-read (a .n) (a .t2) (a .t3) (long start) (a .l .send .at) (a .l .recv .at) (start .pre .0) (start .pre .1) (h .loop .i))),
     )
 
 returns : tie.Need-returns Inv-loop μ-loop
@@ -86,10 +84,10 @@ endpoints-ok-spec =
     μ-loop
     loop-holds
     mul-e
-    element-copy-out-e
+    array-copy-out-e
     cast-k
     mul-b
-    element-copy-out-b
+    array-copy-out-b
     element-copy-out-wide
     wide-requires
     element-copy-out-wide-2

@@ -9,10 +9,10 @@ use Rattle.ipc.proofs.sound.last_ends.Statement.{statement}
 use Rattle.ipc.proofs.sound.last_ends.Tie as tie
 
 abbrev Inv-loop : tie.InvT-loop
-Inv-loop t s₀ r₀ i₀ s r i = (i ≤ 64) × Remembers (t .endpoints) sendRight i (s .at) × Remembers (t .endpoints) receiveRight i (r .at)
+Inv-loop es s₀ r₀ i₀ s r i = (i ≤ 64) × Remembers es sendRight i (s .at) × Remembers es receiveRight i (r .at)
 
 abbrev μ-loop : tie.MeasureT-loop
-μ-loop t s₀ r₀ i₀ s r i = 64 - i
+μ-loop es s₀ r₀ i₀ s r i = 64 - i
 
 loop-holds : tie.Need-loop-holds Inv-loop μ-loop
 loop-holds c = (omega arith, remembers-none _ _, remembers-none _ _)
@@ -20,8 +20,8 @@ loop-holds c = (omega arith, remembers-none _ _, remembers-none _ _)
 mul-e : tie.Need-mul-e Inv-loop μ-loop
 mul-e c = search needs
 
-element-copy-out-e : tie.Need-element-copy-out-e Inv-loop μ-loop
-element-copy-out-e c = search needs
+array-copy-out-e : tie.Need-array-copy-out-e Inv-loop μ-loop
+array-copy-out-e c = search needs
 
 noted-requires : tie.Need-noted-requires Inv-loop μ-loop
 noted-requires c κs = search needs
@@ -39,8 +39,8 @@ loop-again : tie.Need-loop-again Inv-loop μ-loop
 loop-again c =
     let h = c .before .before .before .before in (
       omega arith,
-      remembers-more (h .before .args .t1 .endpoints) sendRight (h .loop .i) _ _ (h .loop .inv .1) (c .before .noted .ensures),
-      remembers-more (h .before .args .t1 .endpoints) receiveRight (h .loop .i) _ _ (h .loop .inv .2) (c .noted2 .ensures),
+      remembers-more (h .before .args .t1) sendRight (h .loop .i) _ _ (h .loop .inv .1) (c .before .noted .ensures),
+      remembers-more (h .before .args .t1) receiveRight (h .loop .i) _ _ (h .loop .inv .2) (c .noted2 .ensures),
     )
 
 returns : tie.Need-returns Inv-loop μ-loop
@@ -57,7 +57,7 @@ last-ends-spec =
     μ-loop
     loop-holds
     mul-e
-    element-copy-out-e
+    array-copy-out-e
     noted-requires
     noted-requires-2
     add-i

@@ -11,10 +11,10 @@ use Rattle.ipc.proofs.sound.mailboxes_ok.Statement.{statement}
 use Rattle.ipc.proofs.sound.mailboxes_ok.Tie as tie
 
 abbrev Inv-loop : tie.InvT-loop
-Inv-loop t m d send recv ok₀ k₀ ok k = (k ≤ 32) × (ok ≡ every (mailboxOk t) k)
+Inv-loop m d es bs send recv ok₀ k₀ ok k = (k ≤ 32) × (ok ≡ every (mailboxOk m d es bs) k)
 
 abbrev μ-loop : tie.MeasureT-loop
-μ-loop t m d send recv ok₀ k₀ ok k = 32 - k
+μ-loop m d es bs send recv ok₀ k₀ ok k = 32 - k
 
 loop-holds : tie.Need-loop-holds Inv-loop μ-loop
 loop-holds c = (omega arith, every-none _)
@@ -22,8 +22,8 @@ loop-holds c = (omega arith, every-none _)
 mul-b : tie.Need-mul-b Inv-loop μ-loop
 mul-b c = search needs
 
-element-copy-out-b : tie.Need-element-copy-out-b Inv-loop μ-loop
-element-copy-out-b c = search needs
+array-copy-out-b : tie.Need-array-copy-out-b Inv-loop μ-loop
+array-copy-out-b c = search needs
 
 element-copy-out-wide : tie.Need-element-copy-out-wide Inv-loop μ-loop
 element-copy-out-wide c = search needs
@@ -40,14 +40,14 @@ wide-requires-2 c κs = search needs
 mul-se : tie.Need-mul-se Inv-loop μ-loop
 mul-se c = search needs
 
-element-copy-out-se : tie.Need-element-copy-out-se Inv-loop μ-loop
-element-copy-out-se c = search needs
+array-copy-out-se : tie.Need-array-copy-out-se Inv-loop μ-loop
+array-copy-out-se c = search needs
 
 mul-re : tie.Need-mul-re Inv-loop μ-loop
 mul-re c = search needs
 
-element-copy-out-re : tie.Need-element-copy-out-re Inv-loop μ-loop
-element-copy-out-re c = search needs
+array-copy-out-re : tie.Need-array-copy-out-re Inv-loop μ-loop
+array-copy-out-re c = search needs
 
 ends-test-requires : tie.Need-ends-test-requires Inv-loop μ-loop
 ends-test-requires c κs = search needs
@@ -68,11 +68,11 @@ loop-again c =
     let turn = c .before .before .before .before .before .before .before .before .before in
     let below : h .loop .k < 32 = omega arith in
     let start = c .before .before .before .before .before .before .before .before .before .before .before .before .before in
-    let t = start .args .t1 in (
+    let a = start .args in (
       omega arith,
-      every-step (mailboxOk t) (h .loop .k) _ _ (h .loop .inv .1)
+      every-step (mailboxOk (a .m) (a .d) (a .t3) (a .t4)) (h .loop .k) _ _ (h .loop .inv .1)
           (c .mailbox-test .ensures
-          ∙ rw (c .before .ends-test .ensures, ends-read t, c .before .before .before .before .wide2 .ensures, c .before .before .before .before .before .before .wide .ensures, start .pre .0 .last (h .loop .k) below, start .pre .1 .last (h .loop .k) below)),
+          ∙ rw (c .before .ends-test .ensures, ends-read (a .t3), c .before .before .before .before .wide2 .ensures, c .before .before .before .before .before .before .wide .ensures, start .pre .0 .last (h .loop .k) below, start .pre .1 .last (h .loop .k) below)),
     )
 
 returns : tie.Need-returns Inv-loop μ-loop
@@ -86,15 +86,15 @@ mailboxes-ok-spec =
     μ-loop
     loop-holds
     mul-b
-    element-copy-out-b
+    array-copy-out-b
     element-copy-out-wide
     wide-requires
     element-copy-out-wide-2
     wide-requires-2
     mul-se
-    element-copy-out-se
+    array-copy-out-se
     mul-re
-    element-copy-out-re
+    array-copy-out-re
     ends-test-requires
     mailbox-test-requires
     add-k

@@ -30,18 +30,18 @@ returns c = refused _ (sym (c .before .in-range .ensures) ∙ not-true _ (c .if1
 last-ends-requires : tie.Need-last-ends-requires
 last-ends-requires c κs = search needs
 
-places-ok-requires : tie.Need-places-ok-requires
-places-ok-requires c κs = search needs
-
 endpoints-ok-requires : tie.Need-endpoints-ok-requires
 endpoints-ok-requires c κs = search needs
 
 mailboxes-ok-requires : tie.Need-mailboxes-ok-requires
-mailboxes-ok-requires c κs = (c .before .before .before .last-ends .ensures .0, c .before .before .before .last-ends .ensures .1, shallow (c .before .before .before .before))
+mailboxes-ok-requires c κs = (c .before .before .last-ends .ensures .0, c .before .before .last-ends .ensures .1, shallow (c .before .before .before .before .before))
+
+places-ok-requires : tie.Need-places-ok-requires
+places-ok-requires c κs = search needs
 
 returns-2 : tie.Need-returns-2
 unfolding soundTest
-returns-2 c = simp (c .mailboxes-ok .ensures, c .before .endpoints-ok .ensures, c .before .before .places-ok .ensures, in-range (c .before .before .before .before .before))
+returns-2 c = simp (c .places-ok .ensures, c .before .mailboxes-ok .ensures, c .before .before .endpoints-ok .ensures, in-range (c .before .before .before .before .before .before .before))
 
 pub sound-spec : {M : Type 1} → statement M
 sound-spec =
@@ -50,7 +50,7 @@ sound-spec =
     in-range-requires
     returns
     last-ends-requires
-    places-ok-requires
     endpoints-ok-requires
     mailboxes-ok-requires
+    places-ok-requires
     returns-2)
