@@ -8,15 +8,24 @@ ghost use Rattle.laws.specs.Pick.{pick};
 ghost use Rattle.ipc.specs.Make.{inRange};
 ghost use Rattle.ipc.specs.SoundTest.{isEnd, isFreshEndpoint, isFreshMailbox, placeTest, placeOk, Remembers, endpointTest, endpointOk, ringTest, waiterTest, endsTest, mailboxTest, mailboxOk, soundTest};
 use crate::state::Endpoint;
+use crate::state::MAX_DEPTH;
+use crate::state::MAX_ENDPOINTS;
+use crate::state::MAX_MAILBOXES;
 use crate::state::Mailbox;
 use crate::state::Message;
 use crate::state::Sizes;
 use crate::state::Table;
+use cap::CapRights;
+
+const PLACES: usize = MAX_MAILBOXES * MAX_DEPTH;
 
 pub fn in_range(z: Sizes) -> bool
     ensures { λ r. ⌜ r ≡ inRange z ⌝ }
 {
-    (z.mailboxes <= 32) & (z.endpoints <= 64) & (1 <= z.depth) & (z.depth <= 8)
+    (z.mailboxes <= MAX_MAILBOXES)
+        & (z.endpoints <= MAX_ENDPOINTS)
+        & (1 <= z.depth)
+        & (z.depth <= MAX_DEPTH)
 }
 
 fn place_test(m: Message, live: bool, p: usize, d: usize) -> bool
@@ -31,10 +40,10 @@ fn places_ok(t: Table) -> bool
     let d = t.sizes.depth;
     let mut ok = true;
     let mut i: usize = 0;
-    while i < 256 {
+    while i < PLACES {
         let m = t.messages[i];
-        let b = t.mailboxes[i / 8];
-        ok = ok & place_test(m, b.live, i % 8, d);
+        let b = t.mailboxes[i / MAX_DEPTH];
+        ok = ok & place_test(m, b.live, i % MAX_DEPTH, d);
         i += 1;
     }
     ok
@@ -50,11 +59,11 @@ struct Ends {
     recv: Last,
 }
 
-fn noted(s: Last, e: Endpoint, w: u8, i: usize) -> Last
+fn noted(s: Last, e: Endpoint, w: CapRights, i: usize) -> Last
     requires { ⌜ i < 64 ⌝ }
-    ensures { λ r. ⌜ ((k : ℕ) → k < 32 → getD (r .at) k 0 ≡ pick (isEnd e (record { bits = w }) k) i (getD (s .at) k 0)) ⌝ }
+    ensures { λ r. ⌜ ((k : ℕ) → k < 32 → getD (r .at) k 0 ≡ pick (isEnd e w k) i (getD (s .at) k 0)) ⌝ }
 {
-    if e.live & (e.rights.bits == w) & (e.mailbox < 32) {
+    if e.live & (e.rights.bits == w.bits) & (e.mailbox < 32) {
         let mut o = s;
         let k = e.mailbox as usize;
         o.at[k] = i as u8;
@@ -70,10 +79,10 @@ fn last_ends(es: [Endpoint; 64]) -> Ends
     let mut s = Last { at: [64u8; 32] };
     let mut r = Last { at: [64u8; 32] };
     let mut i: usize = 0;
-    while i < 64 {
+    while i < MAX_ENDPOINTS {
         let e = es[i];
-        s = noted(s, e, 1, i);
-        r = noted(r, e, 2, i);
+        s = noted(s, e, CapRights::SEND, i);
+        r = noted(r, e, CapRights::RECV, i);
         i += 1;
     }
     Ends { send: s, recv: r }
@@ -91,7 +100,10 @@ fn endpoint_test(e: Endpoint, below: bool, named: bool, send: bool, recv: bool) 
     if !e.live {
         return below | is_fresh_endpoint(e);
     }
-    below & named & (((e.rights.bits == 1) & send) | ((e.rights.bits == 2) & recv))
+    below
+        & named
+        & (((e.rights.bits == CapRights::SEND.bits) & send)
+            | ((e.rights.bits == CapRights::RECV.bits) & recv))
 }
 
 // A dead endpoint may name any number: the place that is read for it is not looked at.
@@ -103,7 +115,7 @@ fn endpoints_ok(n: usize, es: [Endpoint; 64], bs: [Mailbox; 32], l: Ends) -> boo
     let recv = l.recv;
     let mut ok = true;
     let mut i: usize = 0;
-    while i < 64 {
+    while i < MAX_ENDPOINTS {
         let e = es[i];
         let k = (e.mailbox % 32) as usize;
         let b = bs[k];
@@ -152,7 +164,7 @@ fn waiter_test(b: Mailbox) -> bool
 fn ends_test(s: usize, r: usize, g: u16, h: u16) -> bool
     ensures { λ v. ⌜ v ≡ endsTest s r g h ⌝ }
 {
-    (s < 64) & (r < 64) & (g == h) & !(g == 0)
+    (s < MAX_ENDPOINTS) & (r < MAX_ENDPOINTS) & (g == h) & !(g == 0)
 }
 
 fn is_fresh_mailbox(b: Mailbox) -> bool
@@ -184,12 +196,12 @@ fn mailboxes_ok(m: usize, d: usize, es: [Endpoint; 64], bs: [Mailbox; 32], l: En
     let recv = l.recv;
     let mut ok = true;
     let mut k: usize = 0;
-    while k < 32 {
+    while k < MAX_MAILBOXES {
         let b = bs[k];
         let s = wide(send.at[k]);
         let r = wide(recv.at[k]);
-        let se = es[s % 64];
-        let re = es[r % 64];
+        let se = es[s % MAX_ENDPOINTS];
+        let re = es[r % MAX_ENDPOINTS];
         let ends = ends_test(s, r, se.generation, re.generation);
         ok = ok & mailbox_test(b, k < m, ends, d);
         k += 1;

@@ -18,16 +18,16 @@ cast-o : tie.Need-cast-o
 cast-o c = search needs
 
 element-write-o : tie.Need-element-write-o
-element-write-o c = let a = c .before .before .before .before .before .args in noted-below (a .s .at) (a .e) (record { bits = a .w }) (a .i) (c .before .if1 .taken)
+element-write-o c = let a = c .before .before .before .before .before .before .args in noted-below (a .s .at) (a .e) (a .w) (a .i) (c .before .if1 .taken)
 
 returns : tie.Need-returns
 returns c =
-    let start = c .before .before .before .before .before in
+    let start = c .before .before .before .before .before .before in
     let a = start .args in
-    noted-end (a .s .at) (a .e) (record { bits = a .w }) (a .i) (omega (arith, long start)) (c .before .if1 .taken)
+    noted-end (a .s .at) (a .e) (a .w) (a .i) (omega (arith, long start)) (c .before .if1 .taken)
 
 returns-2 : tie.Need-returns-2
-returns-2 c = let a = c .before .before .before .before .args in noted-none (a .s .at) (a .e) (record { bits = a .w }) (a .i) (c .if1 .left)
+returns-2 c = let a = c .before .before .before .before .before .args in noted-none (a .s .at) (a .e) (a .w) (a .i) (c .if1 .left)
 
 pub noted-spec : {M : Type 1} → statement M
 noted-spec = tie.close (tie.spec cast-k cast-o element-write-o returns returns-2)
