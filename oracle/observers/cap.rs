@@ -1,0 +1,5 @@
+impl CapRights {
+    pub fn bits(self) -> u8 {
+        self.0
+    }
+}

@@ -1,0 +1,31 @@
+impl<const MAILBOXES: usize, const ENDPOINTS: usize, const DEPTH: usize>
+    Table<MAILBOXES, ENDPOINTS, DEPTH>
+{
+    pub fn next_generation(&self) -> u16 {
+        self.next_gen
+    }
+
+    pub fn mailboxes(&self) -> Vec<crate::views::Mailbox> {
+        let show = |m: &Mailbox<DEPTH>| crate::views::Mailbox {
+            live: m.live,
+            ephemeral: m.auto_reap,
+            holds: m.send_holders,
+            head: m.head,
+            tail: m.tail,
+            length: m.len,
+            waiter: m.waiter,
+            places: m.buf.to_vec(),
+        };
+        self.mailboxes.iter().map(show).collect()
+    }
+
+    pub fn endpoints(&self) -> Vec<crate::views::Endpoint> {
+        let show = |e: &Endpoint| crate::views::Endpoint {
+            live: e.live,
+            generation: e.generation,
+            rights: e.rights.bits(),
+            mailbox: e.mailbox,
+        };
+        self.endpoints.iter().map(show).collect()
+    }
+}

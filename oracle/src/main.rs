@@ -1,0 +1,66 @@
+//! Runs the Rust that is ported, for comparison. README.md says how.
+
+mod bind;
+mod cases;
+mod random;
+mod tasks;
+mod views;
+
+// The modules of the Rust text: build.rs makes the list.
+include!(concat!(env!("OUT_DIR"), "/harbor.rs"));
+
+use std::io::{self, Read, Write};
+use std::process::ExitCode;
+
+const USAGE: &str = "usage: oracle COMMAND
+  bind-edges                  cases of bind on both sides of each edge
+  bind-sweep                  cases of bind with every index
+  bind-cases SEED COUNT       drawn cases of bind
+  bind-bad-words SEED COUNT   drawn cases of bind, each with a word that does not read
+  bind                        reads cases, prints the Rust's answers";
+
+fn main() -> ExitCode {
+    let words: Vec<String> = std::env::args().skip(1).collect();
+    let words: Vec<&str> = words.iter().map(String::as_str).collect();
+    match run(&words).and_then(|bytes| io::stdout().write_all(&bytes).map_err(say)) {
+        Ok(()) => ExitCode::SUCCESS,
+        Err(why) => {
+            eprintln!("oracle: {why}");
+            ExitCode::FAILURE
+        }
+    }
+}
+
+/// What the command writes.
+fn run(words: &[&str]) -> Result<Vec<u8>, String> {
+    match words {
+        ["bind-edges"] => Ok(written(cases::edges())),
+        ["bind-sweep"] => Ok(written(cases::sweep())),
+        ["bind-cases", seed, count] => Ok(written(cases::drawn(number(seed)?, number(count)?))),
+        ["bind-bad-words", seed, count] => {
+            Ok(written(cases::bad_words(number(seed)?, number(count)?)))
+        }
+        ["bind"] => Ok(bind::answers(&input()?)?.into_bytes()),
+        _ => Err(USAGE.into()),
+    }
+}
+
+fn written(cases: Vec<cases::Case>) -> Vec<u8> {
+    let mut out = Vec::new();
+    cases.iter().for_each(|case| case.write(&mut out));
+    out
+}
+
+fn input() -> Result<Vec<u8>, String> {
+    let mut bytes = Vec::new();
+    io::stdin().read_to_end(&mut bytes).map_err(say)?;
+    Ok(bytes)
+}
+
+fn number<N: std::str::FromStr>(word: &str) -> Result<N, String> {
+    word.parse().map_err(|_| format!("not a number: {word}"))
+}
+
+fn say(error: io::Error) -> String {
+    error.to_string()
+}
