@@ -5,14 +5,14 @@ use manifest::AgentEntry;
 use manifest::Want;
 
 // The bytes before the held words.
-pub const HEAD: usize = 10;
+pub(crate) const HEAD: usize = 10;
 
-pub const MOST_HELD: usize = 255;
+pub(crate) const MOST_HELD: usize = 255;
 
-pub const MOST_BYTES: usize = 2040;
+pub(crate) const MOST_BYTES: usize = 2040;
 
 // How many words the head announces.
-pub fn count(head: [u8; HEAD]) -> usize
+pub(crate) fn count(head: [u8; HEAD]) -> usize
     ensures { λ r. ⌜ r ≤ 255 ⌝ }
 {
     below_256(head[9])
@@ -25,7 +25,7 @@ fn below_256(byte: u8) -> usize
 }
 
 // Whether the pool byte and the presence bytes are 0 or 1.
-pub fn flags_fit(head: [u8; HEAD]) -> bool {
+pub(crate) fn flags_fit(head: [u8; HEAD]) -> bool {
     (head[0] <= 1) & (head[1] <= 1) & (head[3] <= 1) & (head[5] <= 1) & (head[7] <= 1)
 }
 
@@ -36,7 +36,7 @@ fn want(presence: u8, index: u8) -> Want {
     }
 }
 
-pub fn entry(head: [u8; HEAD]) -> AgentEntry {
+pub(crate) fn entry(head: [u8; HEAD]) -> AgentEntry {
     let first = want(head[1], head[2]);
     let second = want(head[3], head[4]);
     let third = want(head[5], head[6]);
@@ -53,7 +53,7 @@ fn shifted_in(word: u64, byte: u8) -> u64 {
 }
 
 // The words that `bytes` hold, for as many as there is room.
-pub fn read_words(bytes: &[u8], held: &mut [u64]) {
+pub(crate) fn read_words(bytes: &[u8], held: &mut [u64]) {
     let mut i = 0;
     while i < bytes.len() {
         let k = i / 8;

@@ -46,7 +46,7 @@ fn values(answer: BindAnswer, slots: [Slot; 4]) {
     }
 }
 
-pub fn write(binding: Binding) {
+pub(crate) fn write(binding: Binding) {
     let answer = binding.answer;
     let slots = binding.slots;
     io::print_decimal(STDOUT_FILENO, answer.number() as u64);
@@ -54,7 +54,7 @@ pub fn write(binding: Binding) {
     end();
 }
 
-pub fn write_bad(at: u64) {
+pub(crate) fn write_bad(at: u64) {
     io::write_all(STDOUT_FILENO, b"bad");
     value(at);
     end();
