@@ -1,5 +1,6 @@
 //! Takes the Rust text as it stands, appends observers of private fields, and
-//! writes the list of modules that the crate root includes.
+//! writes the list of modules that the crate root includes; and the channel
+//! tables of each size that can be made.
 
 use std::path::{Path, PathBuf};
 use std::{env, fs, process};
@@ -38,6 +39,38 @@ fn main() {
         list += &format!("#[allow(dead_code)]\n#[path = {path:?}]\npub mod {name};\n");
     }
     fs::write(out.join("harbor.rs"), list).unwrap();
+    fs::write(out.join("sizes.rs"), tables(&sizes())).unwrap();
+}
+
+/// The sizes that are compiled, since all 17,160 would be too many: every small
+/// table; every number of endpoints with the mailboxes that they serve, at a
+/// depth that goes round; every depth at the greatest sizes.
+fn sizes() -> Vec<[usize; 3]> {
+    let mut list = Vec::new();
+    for m in 0..=3 {
+        for e in 0..=6 {
+            list.extend((1..=2).map(|d| [m, e, d]));
+        }
+    }
+    list.extend((0..=64).map(|e| [e / 2, e, 1 + e % 8]));
+    list.extend((1..=8).map(|d| [32, 64, d]));
+    list.sort_unstable();
+    list.dedup();
+    list
+}
+
+/// `SIZES`, and `fresh`, which makes a table of one of them.
+fn tables(sizes: &[[usize; 3]]) -> String {
+    let arms: String = sizes
+        .iter()
+        .map(|[m, e, d]| format!("[{m}, {e}, {d}] => Box::new(Table::<{m}, {e}, {d}>::new()),\n"))
+        .collect();
+    format!(
+        "pub const SIZES: [[usize; 3]; {}] = {sizes:?};\n
+        fn fresh(sizes: [usize; 3]) -> Option<Box<dyn Channels>> {{
+            Some(match sizes {{\n{arms}_ => return None,\n}})\n}}\n",
+        sizes.len()
+    )
 }
 
 /// A file of the Rust text, under the name that the documents give it or its own.

@@ -1,7 +1,7 @@
 //! The Rust's answers to cases of `bind`, one line a case.
 
 use crate::cap::CapId;
-use crate::cases::{Case, SLOTS};
+use crate::cases::Case;
 use crate::manifest::{self, AgentEntry, BindError};
 
 /// Answers every case of `bytes`. Damaged input ends with the offset of the
@@ -52,13 +52,12 @@ fn read_word(word: u64) -> Result<Option<CapId>, String> {
 
 /// The entry that asks for the case's slots; the rest of it is nothing to `bind`.
 fn entry(case: &Case) -> AgentEntry {
-    let slots: [Option<u8>; SLOTS] = case.wants;
     AgentEntry {
         name: "case",
         image: &[],
         text_pages: 1,
         stack_pages: 1,
-        slots,
+        slots: case.wants,
         may_resolve: false,
         device: None,
         packet_pool: case.pool,

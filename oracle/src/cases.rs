@@ -2,18 +2,18 @@
 //! a presence byte and an index byte, a count, and that many words of eight
 //! bytes, little-endian.
 
+use crate::manifest::MAX_SLOTS;
 use crate::random::Random;
 
-pub const SLOTS: usize = 4;
 /// The bytes before the held words.
-const HEAD: usize = 2 + 2 * SLOTS;
+const HEAD: usize = 2 + 2 * MAX_SLOTS;
 /// A word that holds an id is this and the id's raw number.
 const PRESENT: u64 = 1 << 32;
 
 #[derive(Clone)]
 pub struct Case {
     pub pool: bool,
-    pub wants: [Option<u8>; SLOTS],
+    pub wants: [Option<u8>; MAX_SLOTS],
     pub held: Vec<u64>,
 }
 
@@ -21,7 +21,7 @@ impl Case {
     fn new(pool: bool, held: Vec<u64>) -> Self {
         Self {
             pool,
-            wants: [None; SLOTS],
+            wants: [None; MAX_SLOTS],
             held,
         }
     }
@@ -80,7 +80,7 @@ pub fn edges() -> Vec<Case> {
             indices.sort_unstable();
             indices.dedup();
             for index in indices {
-                for slot in 0..SLOTS {
+                for slot in 0..MAX_SLOTS {
                     edge(&mut cases, pool, length, index, slot);
                 }
             }
@@ -111,7 +111,7 @@ pub fn sweep() -> Vec<Case> {
         for length in [0, 3, 12, 255] {
             for index in 0..=255 {
                 let mut case = Case::new(pool, full(length));
-                case.wants[usize::from(index) % SLOTS] = Some(index);
+                case.wants[usize::from(index) % MAX_SLOTS] = Some(index);
                 cases.push(case);
             }
         }

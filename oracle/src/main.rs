@@ -2,7 +2,12 @@
 
 mod bind;
 mod cases;
+mod dump;
+mod log;
+mod operations;
 mod random;
+mod replay;
+mod tables;
 mod tasks;
 mod views;
 
@@ -17,7 +22,10 @@ const USAGE: &str = "usage: oracle COMMAND
   bind-sweep                  cases of bind with every index
   bind-cases SEED COUNT       drawn cases of bind
   bind-bad-words SEED COUNT   drawn cases of bind, each with a word that does not read
-  bind                        reads cases, prints the Rust's answers";
+  bind                        reads cases, prints the Rust's answers
+  replay                      reads an operation log, prints the Rust's lines
+  dump                        as replay, and then every field of every table
+  sizes                       the sizes of channel table that a log may ask for";
 
 fn main() -> ExitCode {
     let words: Vec<String> = std::env::args().skip(1).collect();
@@ -41,6 +49,12 @@ fn run(words: &[&str]) -> Result<Vec<u8>, String> {
             Ok(written(cases::bad_words(number(seed)?, number(count)?)))
         }
         ["bind"] => Ok(bind::answers(&input()?)?.into_bytes()),
+        ["sizes"] => Ok(sizes().into_bytes()),
+        ["replay"] => Ok(replayed()?.0.into_bytes()),
+        ["dump"] => {
+            let (lines, tables) = replayed()?;
+            Ok((lines + &dump::dump(&tables)).into_bytes())
+        }
         _ => Err(USAGE.into()),
     }
 }
@@ -49,6 +63,18 @@ fn written(cases: Vec<cases::Case>) -> Vec<u8> {
     let mut out = Vec::new();
     cases.iter().for_each(|case| case.write(&mut out));
     out
+}
+
+fn replayed() -> Result<(String, tables::Tables), String> {
+    // transfer's panics are answers here; any other ends in an error below
+    std::panic::set_hook(Box::new(|_| {}));
+    let log = input()?;
+    std::panic::catch_unwind(|| replay::replay(&log)).unwrap_or(Err("the Rust panicked".into()))
+}
+
+fn sizes() -> String {
+    let line = |[m, e, d]: &[usize; 3]| format!("{m} {e} {d}\n");
+    tables::SIZES.iter().map(line).collect()
 }
 
 fn input() -> Result<Vec<u8>, String> {
