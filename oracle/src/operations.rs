@@ -58,15 +58,15 @@ pub fn apply(t: &mut Tables, operation: u8, mut o: Operands) -> Result<Answer, S
             channels.note_state();
             no(0)
         }
-        27 => {
-            let counts = channels.refusals();
-            done([counts.authority, counts.full, counts.state])
-        }
         19 => minted(t.tasks.mint(o.word()).ok()),
         20 => found(t.tasks.lookup(o.id()).ok()),
         21 => done([t.tasks.revoke_task(o.word())]),
         22 => minted(t.irqs.mint(o.word()).ok()),
         23 => found(t.irqs.lookup(o.id()).ok()),
+        27 => {
+            let counts = channels.refusals();
+            done([counts.authority, counts.full, counts.state])
+        }
         _ => on_rows(t, operation, o),
     })
 }

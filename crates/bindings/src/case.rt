@@ -9,7 +9,7 @@ pub(crate) const HEAD: usize = 10;
 
 pub(crate) const MOST_HELD: usize = 255;
 
-pub(crate) const MOST_BYTES: usize = 2040;
+pub(crate) const MOST_BYTES: usize = 8 * MOST_HELD;
 
 // How many words the head announces.
 pub(crate) fn count(head: [u8; HEAD]) -> usize
