@@ -1,15 +1,16 @@
 -- Words and slots: each way there and back is the same, and a word that reads is one that is not refused. Assumes nothing.
 use mathlib.Core.Path.{_≡_, refl, sym, ap, _∙_}
 use mathlib.Core.Bool.{Bool, true, false, _||_}
-use mathlib.Core.List.{List}
-use Prim.Native.Nat.{ℕ, _+_, _/_, _%_, _<_}
+use mathlib.Core.List.{List, [], _∷_}
+use Prim.Native.Nat.{ℕ, zero, suc, _+_, _/_, _%_, _<_}
 use native.Mathlib.Omega.{arith}
 use borrow.Author.Tests.{eq-eqb, ne-eqb, eqb-true, eqb-false}
 use lib.Dec.{eqb}
+use lib.ListN.{getD, length}
 use Rattle.laws.specs.Pick.{pick}
 use Rattle.laws.proofs.Cases.{all-pick}
 use Rattle.cap.specs.Slot.{vacant, holding}
-use Rattle.cap.specs.Word.{readWord, wordOf, isWord}
+use Rattle.cap.specs.Word.{readWord, wordOf, isWord, orVacant, slotAt, slotsOf}
 use Rattle.cap.specs.declared.CapId.{CapId}
 use Rattle.cap.specs.declared.slot.Slot.{Slot}
 use Rattle.cap.specs.declared.word.WordAnswer.{WordAnswer}
@@ -61,3 +62,15 @@ reads-test w s = by (eqb w 0) (eqb (w / 4294967296) 1)
     by true b e = refl
     by false true e = refl
     by false false e = let z : _≡_ {A = ℕ} 0 1 = cc in absurd (omega arith)
+
+-- a list of words holds at each place what its list of slots has there, and is as long
+pub slots-at : (l : List ℕ) (i : ℕ) → getD (slotsOf l) i vacant ≡ slotAt l i
+unfolding slotsOf orVacant readWord pick
+slots-at [] i = refl
+slots-at (w ∷ l) zero = refl
+slots-at (w ∷ l) (suc i) = slots-at l i
+
+pub slots-length : (l : List ℕ) → length (slotsOf l) ≡ length l
+unfolding slotsOf
+slots-length [] = refl
+slots-length (w ∷ l) = ap suc (slots-length l)

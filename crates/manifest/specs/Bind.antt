@@ -31,9 +31,9 @@ choiceFrom want found n pool k =
     (pick (not (found .present)) (Refuses (HeldVacant k (want .index)))
     (Takes found))))
 
--- the same at a held list
-abbrev pub choiceOf : Want → List Slot → Bool → ℕ → Choice
-choiceOf want held pool k = choiceFrom want (getD held (want .index) vacant) (length held) pool k
+-- what entry slot k takes from a held list
+abbrev pub choiceOf : AgentEntry → List Slot → ℕ → Choice
+choiceOf e held k = choiceFrom (wantAt e k) (getD held (wantAt e k .index) vacant) (length held) (e .«packet_pool») k
 
 -- a refused bind gives four vacant places
 abbrev pub refusedBy : BindAnswer → Binding
@@ -44,14 +44,14 @@ unfoldable pub chosen : Choice → (Slot → Binding) → Binding
 chosen (Takes s) f = f s
 chosen (Refuses a) f = refusedBy a
 
--- over the entry's slots upward, stopping at the first fault
+-- four choices upward, stopping at the first fault
+unfoldable pub inOrder : Choice → Choice → Choice → Choice → Binding
+inOrder p q r s =
+    chosen p (λ a. chosen q (λ b. chosen r (λ c. chosen s (λ d. record { answer = Bound; slots = a ∷ b ∷ c ∷ d ∷ [] }))))
+
+-- the entry's slots upward, against a list of slots
 unfoldable pub bindSlots : AgentEntry → List Slot → Binding
-bindSlots e held =
-    chosen (choiceOf (wantAt e 0) held (e .«packet_pool») 0) (λ a.
-    chosen (choiceOf (wantAt e 1) held (e .«packet_pool») 1) (λ b.
-    chosen (choiceOf (wantAt e 2) held (e .«packet_pool») 2) (λ c.
-    chosen (choiceOf (wantAt e 3) held (e .«packet_pool») 3) (λ d.
-    record { answer = Bound; slots = a ∷ b ∷ c ∷ d ∷ [] }))))
+bindSlots e held = inOrder (choiceOf e held 0) (choiceOf e held 1) (choiceOf e held 2) (choiceOf e held 3)
 
 -- the held list as words: one that does not read is refused before all else (21)
 unfoldable pub bindOf : AgentEntry → List ℕ → Binding

@@ -1,7 +1,8 @@
 // An entry's slots bound to the held list. Of manifest.rs only `bind`, with an entry's slots and packet pool.
 ghost use mathlib.Core.Path.{_≡_};
-ghost use Rattle.cap.specs.Word.{slotsOf};
-ghost use Rattle.manifest.specs.Bind.{bindNumber, refusedBy, choiceFrom, choiceOf, bindOf};
+ghost use lib.ListN.{length};
+ghost use Rattle.cap.specs.Word.{slotAt};
+ghost use Rattle.manifest.specs.Bind.{bindNumber, refusedBy, choiceFrom, inOrder, bindOf};
 use cap::CapId;
 use cap::Slot;
 use laws::refusals;
@@ -79,13 +80,14 @@ pub fn choose(want: Want, found: Slot, held: usize, pool: bool, slot: usize) -> 
     ensures { λ r. ⌜ r ≡ choiceFrom want found held pool slot ⌝ }
 {
     let index = want.index;
+    let place = index as usize;
     if !want.present {
         return Choice::Takes(Slot {
             present: false,
             id: CapId { raw: 0 },
         });
     }
-    if index as usize >= held {
+    if place >= held {
         return Choice::Refuses(BindAnswer::NoSuchCapability { slot, index, held });
     }
     if (index >= PACKET_CAPABILITY_START) & !pool {
@@ -97,8 +99,34 @@ pub fn choose(want: Want, found: Slot, held: usize, pool: bool, slot: usize) -> 
     Choice::Takes(found)
 }
 
+// The four choices together: the first refusal among them, or the places that they take.
+pub fn in_order(a: Choice, b: Choice, c: Choice, d: Choice) -> Binding
+    ensures { λ r. ⌜ r ≡ inOrder a b c d ⌝ }
+{
+    let first = match a {
+        Choice::Takes(s) => s,
+        Choice::Refuses(answer) => return refused(answer),
+    };
+    let second = match b {
+        Choice::Takes(s) => s,
+        Choice::Refuses(answer) => return refused(answer),
+    };
+    let third = match c {
+        Choice::Takes(s) => s,
+        Choice::Refuses(answer) => return refused(answer),
+    };
+    let fourth = match d {
+        Choice::Takes(s) => s,
+        Choice::Refuses(answer) => return refused(answer),
+    };
+    Binding {
+        answer: BindAnswer::Bound,
+        slots: [first, second, third, fourth],
+    }
+}
+
 fn choose_word(want: Want, held: &[u64], pool: bool, slot: usize) -> Choice
-    ensures { λ r. ⌜ r ≡ choiceOf want (slotsOf (now (held .entry))) pool slot ⌝ }
+    ensures { λ r. ⌜ r ≡ choiceFrom want (slotAt (now (held .entry)) (want .index)) (length (now (held .entry))) pool slot ⌝ }
 {
     let found = cap::slot_at(held, want.index as usize);
     choose(want, found, held.len(), pool, slot)
@@ -112,28 +140,9 @@ pub fn bind(entry: AgentEntry, held: &[u64]) -> Binding
         return refused(BindAnswer::BadWord);
     }
     let pool = entry.packet_pool;
-    let want = entry.slots[0];
-    let first = match choose_word(want, held, pool, 0) {
-        Choice::Takes(s) => s,
-        Choice::Refuses(answer) => return refused(answer),
-    };
-    let want = entry.slots[1];
-    let second = match choose_word(want, held, pool, 1) {
-        Choice::Takes(s) => s,
-        Choice::Refuses(answer) => return refused(answer),
-    };
-    let want = entry.slots[2];
-    let third = match choose_word(want, held, pool, 2) {
-        Choice::Takes(s) => s,
-        Choice::Refuses(answer) => return refused(answer),
-    };
-    let want = entry.slots[3];
-    let fourth = match choose_word(want, held, pool, 3) {
-        Choice::Takes(s) => s,
-        Choice::Refuses(answer) => return refused(answer),
-    };
-    Binding {
-        answer: BindAnswer::Bound,
-        slots: [first, second, third, fourth],
-    }
+    let a = choose_word(entry.slots[0], held, pool, 0);
+    let b = choose_word(entry.slots[1], held, pool, 1);
+    let c = choose_word(entry.slots[2], held, pool, 2);
+    let d = choose_word(entry.slots[3], held, pool, 3);
+    in_order(a, b, c, d)
 }
