@@ -1,0 +1,156 @@
+use borrow.Author.Tests.{not-false}
+use mathlib.Core.Path.{sym, _∙_}
+use mathlib.Core.List.{[], _∷_}
+use Prim.Native.Nat.{_<_}
+use native.Mathlib.Omega.{arith}
+use types.Run.{miss}
+use Rattle.laws.proofs.Cases.{cases}
+use Rattle.capslots.specs.Transfer.{transferOf}
+use Rattle.capslots.proofs.Reach.{inside, stopped, Reaches, reaches}
+use borrow.Author.Needs.{needs}
+use Rattle.capslots.proofs.moves.transfer.Statement.{statement}
+use Rattle.capslots.proofs.moves.transfer.Tie as tie
+
+from-inside : (c : tie.After-enum-told) → c .before .before .before .args .from-slot < 4
+from-inside c = inside _ _ (sym (c .before .before .transfer-bounds .ensures) ∙ c .enum-told .given .1) .0
+
+to-inside : (c : tie.After-enum-told) → c .before .before .before .args .to-slot < 4
+to-inside c = inside _ _ (sym (c .before .before .transfer-bounds .ensures) ∙ c .enum-told .given .1) .1
+
+way : (c : tie.Else5) → let a = c .before .before .before .before .before .before .before .before .before .before .before .before .before .args in Reaches (a .t1) (a .from-row) (a .from-slot) (a .to-row) (a .to-slot)
+way c = record {
+  from-slot = from-inside (c .before .before .before .before .before .before .before .before .before .before);
+  to-slot = to-inside (c .before .before .before .before .before .before .before .before .before .before);
+  elsewhere = c .before .before .before .before .before .before .before .before .before .if1 .left;
+  from-row = c .before .before .before .before .before .before .before .before .if2 .left;
+  held = not-false _ (c .before .before .before .before .if3 .left);
+  endpoint = sym (c .before .before .is-endpoint .ensures) ∙ not-false _ (c .before .if4 .left);
+  to-row = c .if5 .left;
+}
+
+transfer-bounds-requires : tie.Need-transfer-bounds-requires
+transfer-bounds-requires c κs = search needs
+
+enum-told : tie.Need-enum-told
+enum-told c = search needs
+
+returns : tie.Need-returns
+returns c =
+    stopped _ _ _ _ _ _ (c .before .transfer-bounds .ensures) (λ e. miss (1 ∷ 2 ∷ 3 ∷ 4 ∷ 5 ∷ []) 0 tt (rw e at (c .match .keys2)))
+
+returns-2 : tie.Need-returns-2
+unfolding transferOf
+returns-2 c = search (cases, from-inside, to-inside)
+
+returns-3 : tie.Need-returns-3
+unfolding transferOf
+returns-3 c = search (cases, from-inside, to-inside)
+
+mul-from : tie.Need-mul-from
+mul-from c = search needs
+
+element-copy-out-from : tie.Need-element-copy-out-from
+element-copy-out-from c = search needs
+
+mul-held : tie.Need-mul-held
+mul-held c = omega (arith, from-inside (c .before .before .before))
+
+element-copy-out-held : tie.Need-element-copy-out-held
+element-copy-out-held c = omega (arith, from-inside (c .before .before .before))
+
+returns-4 : tie.Need-returns-4
+unfolding transferOf
+returns-4 c = search (cases, from-inside, to-inside)
+
+is-endpoint-requires : tie.Need-is-endpoint-requires
+is-endpoint-requires c κs = search needs
+
+returns-5 : tie.Need-returns-5
+unfolding transferOf
+returns-5 c = rw (← c .before .is-endpoint .ensures) (search (cases, from-inside, to-inside) depth 12)
+
+returns-6 : tie.Need-returns-6
+unfolding transferOf
+returns-6 c = rw (← c .before .before .is-endpoint .ensures) (search (cases, from-inside, to-inside) depth 12)
+
+mul-there : tie.Need-mul-there
+mul-there c = search needs
+
+element-copy-out-there : tie.Need-element-copy-out-there
+element-copy-out-there c = search needs
+
+mul-if6 : tie.Need-mul-if6
+mul-if6 c = omega (arith, to-inside (c .before .before .before .before .before .before .before .before .before .before .before))
+
+element-copy-out-if6 : tie.Need-element-copy-out-if6
+element-copy-out-if6 c = omega (arith, to-inside (c .before .before .before .before .before .before .before .before .before .before .before))
+
+returns-7 : tie.Need-returns-7
+returns-7 c = rw (reaches _ _ _ _ _ (way (c .before .before))) (search cases)
+
+mul-to : tie.Need-mul-to
+mul-to c = omega (arith, from-inside (c .before .before .before .before .before .before .before .before .before .before .before .before))
+
+element-set-from-to : tie.Need-element-set-from-to
+element-set-from-to c = omega (arith, from-inside (c .before .before .before .before .before .before .before .before .before .before .before .before))
+
+mul-to-2 : tie.Need-mul-to-2
+mul-to-2 c = search needs
+
+element-set-from-to-2 : tie.Need-element-set-from-to-2
+element-set-from-to-2 c = search needs
+
+mul-to-3 : tie.Need-mul-to-3
+mul-to-3 c = search needs
+
+element-copy-out-to : tie.Need-element-copy-out-to
+element-copy-out-to c = search needs
+
+mul-t21 : tie.Need-mul-t21
+mul-t21 c = omega (arith, to-inside (c .before .before .before .before .before .before .before .before .before .before .before .before .before))
+
+element-set-from-to-3 : tie.Need-element-set-from-to-3
+element-set-from-to-3 c = omega (arith, to-inside (c .before .before .before .before .before .before .before .before .before .before .before .before .before))
+
+mul-t21-2 : tie.Need-mul-t21-2
+mul-t21-2 c = search needs
+
+element-set-from-t : tie.Need-element-set-from-t
+element-set-from-t c = search needs
+
+returns-8 : tie.Need-returns-8
+returns-8 c = rw (reaches _ _ _ _ _ (way (c .before .before .before))) (search cases)
+
+pub transfer-spec : {M : Type 1} → statement M
+transfer-spec =
+    tie.close
+    (tie.spec
+    transfer-bounds-requires
+    enum-told
+    returns
+    returns-2
+    returns-3
+    mul-from
+    element-copy-out-from
+    mul-held
+    element-copy-out-held
+    returns-4
+    is-endpoint-requires
+    returns-5
+    returns-6
+    mul-there
+    element-copy-out-there
+    mul-if6
+    element-copy-out-if6
+    returns-7
+    mul-to
+    element-set-from-to
+    mul-to-2
+    element-set-from-to-2
+    mul-to-3
+    element-copy-out-to
+    mul-t21
+    element-set-from-to-3
+    mul-t21-2
+    element-set-from-t
+    returns-8)

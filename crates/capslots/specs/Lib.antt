@@ -1,0 +1,4 @@
+pub mod Answers
+pub mod Table
+pub mod Rows
+pub mod Transfer

@@ -1,0 +1,58 @@
+-- Document 01, "Rows and binding": get, holds, seed, install and drain, on every row and slot.
+use mathlib.Core.Bool.{Bool, false, _&&_}
+use mathlib.Core.List.{List, [], _∷_}
+use Prim.Native.Nat.{ℕ}
+use lib.Dec.{eqb, leb}
+use Rattle.laws.specs.Pick.{pick}
+use Rattle.laws.specs.Every.{some}
+use Rattle.cap.specs.Slot.{fourVacant, holding, fromSlot}
+use Rattle.cap.specs.Word.{wordsRead, slotAt}
+use Rattle.cap.specs.declared.CapId.{CapId}
+use Rattle.cap.specs.declared.slot.Slot.{Slot}
+use Rattle.cap.specs.declared.slot.SlotAnswer.{SlotAnswer}
+use Rattle.cap.specs.declared.slot.SlotAnswer.the-variants.{OutOfRange}
+use Rattle.capslots.specs.Table.{emptyRow, rowAt, slotIn, withRow, withSlot}
+use Rattle.capslots.specs.declared.Row.{Row}
+use Rattle.capslots.specs.declared.Table.{Table}
+use Rattle.capslots.specs.declared.Seeded.{Seeded as Seeding}
+use Rattle.capslots.specs.declared.Installed.{Installed as Installing}
+use Rattle.capslots.specs.declared.Drained.{Drained}
+use Rattle.capslots.specs.declared.answers.SeedAnswer.the-variants.{Seeded, BadWord}
+use Rattle.capslots.specs.declared.answers.InstallAnswer.the-variants.{Installed, BadSlot}
+
+-- a bad row is out of range as one of 0 slots (8), else the row is read at the slot (8 with 4, or 9)
+unfoldable pub getOf : Table → ℕ → ℕ → SlotAnswer
+getOf t r s = pick (leb 54 r) (OutOfRange s 0) (fromSlot (rowAt t r .slots) s)
+
+-- a slot holds the id
+abbrev pub namesId : CapId → Slot → Bool
+namesId c x = x .present && eqb (x .id .raw) (c .raw)
+
+-- some slot of the row holds the id; a bad row holds none
+unfoldable pub holdsOf : Table → ℕ → CapId → Bool
+holdsOf t r c = pick (leb 54 r) false (some (λ s. namesId c (slotIn t r s)) 4)
+
+-- the list's first four slots, vacant past its end
+abbrev pub rowOf : List ℕ → Row
+rowOf words = record { slots = slotAt words 0 ∷ slotAt words 1 ∷ slotAt words 2 ∷ slotAt words 3 ∷ [] }
+
+-- a list that does not read is refused before all else (21); a row from 54 up is without effect; else the list fills the row
+unfoldable pub seedOf : Table → ℕ → List ℕ → Seeding
+seedOf t r words =
+    pick (wordsRead words)
+    (pick (leb 54 r) (record { answer = Seeded; table = t }) (record { answer = Seeded; table = withRow t r (rowOf words) }))
+    (record { answer = BadWord; table = t })
+
+-- a bad row, a bad slot or an occupied one is refused (10)
+unfoldable pub installOf : Table → ℕ → ℕ → CapId → Installing
+installOf t r s c =
+    pick (leb 54 r) (record { answer = BadSlot; table = t })
+    (pick (leb 4 s) (record { answer = BadSlot; table = t })
+    (pick (slotIn t r s .present) (record { answer = BadSlot; table = t })
+    (record { answer = Installed; table = withSlot t r s (holding c) })))
+
+-- the row's four slots, which are then vacant; four vacant and no change for a bad row
+unfoldable pub drainOf : Table → ℕ → Drained
+drainOf t r =
+    pick (leb 54 r) (record { slots = fourVacant; table = t })
+    (record { slots = rowAt t r .slots; table = withRow t r emptyRow })

@@ -1,0 +1,31 @@
+-- Document 01, "What the box carries over": 54 rows of 4 slots, and how a slot of one is read and changed.
+use mathlib.Core.List.{[]}
+use Prim.Native.Nat.{ℕ}
+use lib.ListN.{getD, set, replicate}
+use Rattle.cap.specs.Slot.{vacant, fourVacant}
+use Rattle.cap.specs.declared.slot.Slot.{Slot}
+use Rattle.capslots.specs.declared.Row.{Row}
+use Rattle.capslots.specs.declared.Table.{Table}
+
+abbrev pub emptyRow : Row
+emptyRow = record { slots = fourVacant }
+
+-- a new table: every slot vacant
+abbrev pub freshTable : Table
+freshTable = record { rows = replicate 54 emptyRow }
+
+-- row r: one with no slots past the table's end
+abbrev pub rowAt : Table → ℕ → Row
+rowAt t r = getD (t .rows) r (record { slots = [] })
+
+-- what slot s of row r holds
+abbrev pub slotIn : Table → ℕ → ℕ → Slot
+slotIn t r s = getD (rowAt t r .slots) s vacant
+
+-- the table with another row r
+abbrev pub withRow : Table → ℕ → Row → Table
+withRow t r row = record { rows = set (t .rows) r row }
+
+-- the table with x in slot s of row r
+abbrev pub withSlot : Table → ℕ → ℕ → Slot → Table
+withSlot t r s x = withRow t r (record { slots = set (rowAt t r .slots) s x })
