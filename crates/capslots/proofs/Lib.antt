@@ -1,1 +1,4 @@
 pub mod Reach
+pub mod Places
+pub mod Ways
+pub mod Calls

@@ -78,7 +78,8 @@ pub fn transfer(
         };
     }
     let id = held.id;
-    if !is_endpoint(id) {
+    let movable = is_endpoint(id);
+    if !movable {
         return Transferred {
             answer: TransferAnswer::Untransferable,
             table: t,

@@ -24,8 +24,8 @@ way c = record {
   elsewhere = c .before .before .before .before .before .before .before .before .before .if1 .left;
   from-row = c .before .before .before .before .before .before .before .before .if2 .left;
   held = not-false _ (c .before .before .before .before .if3 .left);
-  endpoint = sym (c .before .before .is-endpoint .ensures) ∙ not-false _ (c .before .if4 .left);
-  to-row = c .if5 .left;
+  endpoint = sym (c .before .before .is-endpoint .ensures) ∙ search not-false;
+  to-row = omega arith;
 }
 
 transfer-bounds-requires : tie.Need-transfer-bounds-requires
@@ -106,14 +106,14 @@ mul-to-3 c = search needs
 element-copy-out-to : tie.Need-element-copy-out-to
 element-copy-out-to c = search needs
 
-mul-t21 : tie.Need-mul-t21
-mul-t21 c = omega (arith, to-inside (c .before .before .before .before .before .before .before .before .before .before .before .before .before))
+mul-t22 : tie.Need-mul-t22
+mul-t22 c = omega (arith, to-inside (c .before .before .before .before .before .before .before .before .before .before .before .before .before))
 
 element-set-from-to-3 : tie.Need-element-set-from-to-3
 element-set-from-to-3 c = omega (arith, to-inside (c .before .before .before .before .before .before .before .before .before .before .before .before .before))
 
-mul-t21-2 : tie.Need-mul-t21-2
-mul-t21-2 c = search needs
+mul-t22-2 : tie.Need-mul-t22-2
+mul-t22-2 c = search needs
 
 element-set-from-t : tie.Need-element-set-from-t
 element-set-from-t c = search needs
@@ -149,8 +149,8 @@ transfer-spec =
     element-set-from-to-2
     mul-to-3
     element-copy-out-to
-    mul-t21
+    mul-t22
     element-set-from-to-3
-    mul-t21-2
+    mul-t22-2
     element-set-from-t
     returns-8)
