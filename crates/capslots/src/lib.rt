@@ -160,6 +160,7 @@ pub fn drain(mut t: Table, row: usize) -> Drained
     }
     let own = t.rows[row];
     let slots = own.slots;
-    t.rows[row] = EMPTY_ROW;
+    let empty = EMPTY_ROW;
+    t.rows[row] = empty;
     Drained { slots, table: t }
 }

@@ -98,7 +98,8 @@ pub fn transfer(
             table: t,
         };
     }
-    from.slots[from_slot] = VACANT;
+    let vacant = VACANT;
+    from.slots[from_slot] = vacant;
     t.rows[from_row] = from;
     let mut to = t.rows[to_row];
     to.slots[to_slot] = Slot { present: true, id };

@@ -14,11 +14,11 @@ mul-own c = search needs
 element-copy-out-own : tie.Need-element-copy-out-own
 element-copy-out-own c = search needs
 
-mul-t11 : tie.Need-mul-t11
-mul-t11 c = search needs
+mul-empty : tie.Need-mul-empty
+mul-empty c = search needs
 
-element-set-from-t : tie.Need-element-set-from-t
-element-set-from-t c = search needs
+element-set-from-empty : tie.Need-element-set-from-empty
+element-set-from-empty c = search needs
 
 returns-2 : tie.Need-returns-2
 unfolding drainOf
@@ -26,4 +26,4 @@ returns-2 c = search cases
 
 pub drain-spec : {M : Type 1} → statement M
 drain-spec =
-    tie.close (tie.spec returns mul-own element-copy-out-own mul-t11 element-set-from-t returns-2)
+    tie.close (tie.spec returns mul-own element-copy-out-own mul-empty element-set-from-empty returns-2)

@@ -88,32 +88,32 @@ element-copy-out-if6 c = omega (arith, to-inside (c .before .before .before .bef
 returns-7 : tie.Need-returns-7
 returns-7 c = rw (reaches _ _ _ _ _ (way (c .before .before))) (search cases)
 
+mul-vacant : tie.Need-mul-vacant
+mul-vacant c = omega (arith, from-inside (c .before .before .before .before .before .before .before .before .before .before .before .before))
+
+element-set-from-vacant : tie.Need-element-set-from-vacant
+element-set-from-vacant c = omega (arith, from-inside (c .before .before .before .before .before .before .before .before .before .before .before .before))
+
 mul-to : tie.Need-mul-to
-mul-to c = omega (arith, from-inside (c .before .before .before .before .before .before .before .before .before .before .before .before))
+mul-to c = search needs
 
 element-set-from-to : tie.Need-element-set-from-to
-element-set-from-to c = omega (arith, from-inside (c .before .before .before .before .before .before .before .before .before .before .before .before))
+element-set-from-to c = search needs
 
 mul-to-2 : tie.Need-mul-to-2
 mul-to-2 c = search needs
 
-element-set-from-to-2 : tie.Need-element-set-from-to-2
-element-set-from-to-2 c = search needs
-
-mul-to-3 : tie.Need-mul-to-3
-mul-to-3 c = search needs
-
 element-copy-out-to : tie.Need-element-copy-out-to
 element-copy-out-to c = search needs
 
-mul-t22 : tie.Need-mul-t22
-mul-t22 c = omega (arith, to-inside (c .before .before .before .before .before .before .before .before .before .before .before .before .before))
+mul-t23 : tie.Need-mul-t23
+mul-t23 c = omega (arith, to-inside (c .before .before .before .before .before .before .before .before .before .before .before .before .before))
 
-element-set-from-to-3 : tie.Need-element-set-from-to-3
-element-set-from-to-3 c = omega (arith, to-inside (c .before .before .before .before .before .before .before .before .before .before .before .before .before))
+element-set-from-to-2 : tie.Need-element-set-from-to-2
+element-set-from-to-2 c = omega (arith, to-inside (c .before .before .before .before .before .before .before .before .before .before .before .before .before))
 
-mul-t22-2 : tie.Need-mul-t22-2
-mul-t22-2 c = search needs
+mul-t23-2 : tie.Need-mul-t23-2
+mul-t23-2 c = search needs
 
 element-set-from-t : tie.Need-element-set-from-t
 element-set-from-t c = search needs
@@ -143,14 +143,14 @@ transfer-spec =
     mul-if6
     element-copy-out-if6
     returns-7
+    mul-vacant
+    element-set-from-vacant
     mul-to
     element-set-from-to
     mul-to-2
-    element-set-from-to-2
-    mul-to-3
     element-copy-out-to
-    mul-t22
-    element-set-from-to-3
-    mul-t22-2
+    mul-t23
+    element-set-from-to-2
+    mul-t23-2
     element-set-from-t
     returns-8)
