@@ -1,133 +1,213 @@
+-- `ipc::inner::release_holds` meets its contract. The loop's invariant: the table is sound, the waiters answered so far stand first, and
+-- releasing what is left of the slots in it gives, after them, what releasing all four gives. Assumes nothing.
+use mathlib.Core.Path.{_≡_, refl, sym, ap, _∙_}
+use mathlib.Core.Bool.{true, false}
+use mathlib.Core.List.{List, [], _∷_, _++_, append-assoc, append-nil}
+use Prim.Native.Nat.{ℕ, suc, _+_, _-_, _≤_, _<_}
+use native.Mathlib.Numerals.{add-one}
+use native.Mathlib.Omega.{arith}
+use borrow.Author.Needs.{needs}
+use lib.ListN.{length, getD, set, drop, drop-of-length-le, length-append}
+use lib.Seq.{drop-cons}
+use Rattle.laws.proofs.Cases.{yes, no}
+use Rattle.laws.proofs.Lists.{unmapped}
+use Rattle.cap.specs.Slot.{vacant}
+use Rattle.cap.specs.declared.slot.Slot.{Slot}
+use Rattle.ipc.specs.State.{nobody, mailboxAt, withMailbox, withWaiter}
+use Rattle.ipc.specs.Sound.{Sound}
+use Rattle.ipc.specs.Opening.{holdOf}
+use Rattle.ipc.specs.Holds.{Freed, fewer, reaps, released, releasedAll, fourOf, releaseOf}
+use Rattle.ipc.specs.declared.state.Mailbox.{Mailbox}
+use Rattle.ipc.specs.declared.state.Waiter.{Waiter}
+use Rattle.ipc.specs.declared.state.Table.{Table}
+use Rattle.ipc.specs.declared.opening.Opening.{Opening}
+use Rattle.ipc.specs.declared.opening.Opening.the-variants.{Opens, Shut}
+use Rattle.ipc.specs.declared.answers.Releasing.{Releasing}
+use Rattle.ipc.specs.declared.answers.ReleaseAnswer.the-variants.{Released}
+use Rattle.ipc.proofs.Openings.{shut, opens, hold-gave, hold-within, Within}
+use Rattle.ipc.proofs.KeepsCalls.{released-kept}
 use Rattle.ipc.proofs.inner.holds.release_holds.Statement.{statement}
 use Rattle.ipc.proofs.inner.holds.release_holds.Tie as tie
-use Rattle.ipc.proofs.inner.holds.release_holds.Reads as reads
-use Rattle.ipc.proofs.inner.holds.release_holds.Lts as lts
-use Rattle.cap.proofs.CapId.index.Reads as index-reads
-use Rattle.ipc.proofs.inner.holds.fewer.Reads as fewer-reads
-use Rattle.ipc.proofs.inner.holds.reaps.Reads as reaps-reads
-use Rattle.ipc.proofs.opening.open_hold.Reads as open-hold-reads
+
+record Releases (t₀ : Table) (xs : List Slot) (n : ℕ) (t : Table) (waiters : List Waiter) (woken : ℕ) : Type 0 where
+  pub sound : Sound t
+  pub so-far : List Waiter
+  pub table : releasedAll t (drop n xs) .table ≡ releasedAll t₀ xs .table
+  pub all : so-far ++ releasedAll t (drop n xs) .woken ≡ releasedAll t₀ xs .woken
+  pub places : waiters ≡ fourOf so-far
+  pub many : woken ≡ length so-far
+  pub few : length so-far ≤ n
+
+start : (t : Table) (xs : List Slot) → Sound t → Releases t xs 0 t (fourOf []) 0
+start t xs s = record { sound = s; so-far = []; table = refl; all = refl; places = refl; many = refl; few = omega arith }
+
+-- a turn: the next slot is released, and what that wakes stands after the waiters so far
+module _ {t₀ : Table} {xs : List Slot} {n : ℕ} {t : Table} {waiters : List Waiter} {woken : ℕ} (r : Releases t₀ xs n t waiters woken) (x : Slot) (l : n < length xs) (e : x ≡ getD xs n vacant) where
+  turn : (f : Freed) {waiters′ : List Waiter} {woken′ : ℕ} → f ≡ released t x → length (f .woken) ≤ 1 → waiters′ ≡ fourOf (r .so-far ++ f .woken) → woken′ ≡ length (r .so-far ++ f .woken) → Releases t₀ xs (n + 1) (f .table) waiters′ woken′
+  unfolding releasedAll
+  turn f h small p m =
+      let c : drop n xs ≡ x ∷ drop (suc n) xs = drop-cons xs n vacant l ∙ ap (λ (y : Slot). y ∷ drop (suc n) xs) (sym e) in
+      record {
+        sound = rw h (released-kept t x (r .sound));
+        so-far = r .so-far ++ f .woken;
+        table = rw (h, add-one n) (rw c at (r .table));
+        all = rw (h, add-one n, append-assoc) (rw c at (r .all));
+        places = p;
+        many = m;
+        few = let k = r .few in rw length-append (omega arith);
+      }
+
+  -- a slot that holds no send end
+  skipped : {q : Opening} → q ≡ holdOf t x → q ≡ Shut → Releases t₀ xs (n + 1) t waiters woken
+  unfolding released
+  skipped g z = turn (record { table = t; woken = [] }) (shut _ g z refl) (omega arith) (rw append-nil (r .places)) (rw append-nil (r .many))
+
+  -- one that holds a send end whose mailbox does not reap, and one whose mailbox does
+  module _ (k : ℕ) (b : Mailbox) {q : Opening} (g : q ≡ holdOf t x) (z : q ≡ Opens k) (h : b ≡ fewer (mailboxAt t k)) where
+    kept : reaps b ≡ false → Releases t₀ xs (n + 1) (withMailbox t k b) waiters woken
+    unfolding released
+    kept u = turn (record { table = withMailbox t k b; woken = [] }) (opens _ _ k g z (no _ (rw h at u) (rw h))) (omega arith) (rw append-nil (r .places)) (rw append-nil (r .many))
+
+    reaped : reaps b ≡ true → woken < 4 → Releases t₀ xs (n + 1) (withMailbox t k (withWaiter b nobody)) (set waiters woken (b .waiter)) (woken + 1)
+    unfolding released
+    reaped u small =
+        turn (record { table = withMailbox t k (withWaiter b nobody); woken = b .waiter ∷ [] }) (opens _ _ k g z (yes _ (rw h at u) (rw h))) (omega arith)
+        (rw (r .places, r .many) (next (r .so-far) (b .waiter) (rw (r .many) at small)))
+        (rw (length-append, r .many))
+      where
+        next : (ws : List Waiter) (w : Waiter) → length ws < 4 → set (fourOf ws) (length ws) w ≡ fourOf (ws ++ (w ∷ []))
+        next [] w h = refl
+        next (a ∷ []) w h = refl
+        next (a ∷ c ∷ []) w h = refl
+        next (a ∷ c ∷ d ∷ []) w h = refl
+        next (a ∷ c ∷ d ∷ e ∷ ws) w h = absurd (omega arith)
+
+done : (t₀ : Table) (xs : List Slot) (n : ℕ) {t : Table} {waiters : List Waiter} {woken : ℕ} → length xs ≤ n → Releases t₀ xs n t waiters woken → _≡_ {A = Releasing} (record { answer = Released; waiters = waiters; table = t }) (releaseOf t₀ xs)
+unfolding releaseOf releasedAll
+done t₀ xs n {t} {waiters} {woken} l r =
+    let z = drop-of-length-le xs l in
+    let p : t ≡ releasedAll t₀ xs .table = rw z at (r .table) in
+    let w : r .so-far ≡ releasedAll t₀ xs .woken = rw append-nil at (rw z at (r .all)) in
+    rw (r .places, w, p)
 
 abbrev Inv-loop : tie.InvT-loop
-Inv-loop t₀ slots nobody waiters₀ woken₀ n₀ t waiters woken n = ?
+Inv-loop t₀ slots n₁ waiters₀ woken₀ n₀ t waiters woken n = (n ≤ 4) × (length slots ≡ 4) × Releases t₀ slots n t waiters woken
 
 abbrev μ-loop : tie.MeasureT-loop
-μ-loop t₀ slots nobody waiters₀ woken₀ n₀ t waiters woken n = ?
+μ-loop t₀ slots n₁ waiters₀ woken₀ n₀ t waiters woken n = 4 - n
 
--- src/inner/holds.rt:83:5
+four : (c : tie.Start Inv-loop μ-loop) → length (c .args .t2) ≡ 4
+four c = search (needs, unmapped)
+
+-- what `open_hold` gave is what the rule asks
+gave : (c : tie.After-open-hold Inv-loop μ-loop) → c .open-hold .result ≡ holdOf (c .before .before .before .before .before .before .loop .t) (getD (c .before .before .before .before .before .before .before .args .t2) (c .before .before .before .before .before .before .loop .n) vacant)
+gave c = hold-gave _ _ _ (c .before .before .before .before .before .before .loop .inv .2 .sound) _ (c .before .before .index .ensures) (c .open-hold .ensures)
+
+-- what opened is a live mailbox within the arrays, and the waiters so far are fewer than four
+inside : (c : tie.After-known-told Inv-loop μ-loop) → Within (c .before .before .before .before .before .before .before .before .before .loop .t) (c .before .k .given .0 .0)
+inside c = hold-within _ _ _ (c .before .before .before .before .before .before .before .before .before .loop .inv .2 .sound) (sym (gave (c .before .before .before)) ∙ c .before .k .given .1)
+
+room : (c : tie.In-loop Inv-loop μ-loop) → c .before .loop .woken < 4
+room c = let r = c .before .loop .inv .2 in let m = r .many in let f = r .few in omega arith
+
 loop-holds : tie.Need-loop-holds Inv-loop μ-loop
-loop-holds c = ?
+loop-holds c = (search needs, four c, start _ _ (c .pre))
 
--- src/inner/holds.rt:84:20
 mul-slot : tie.Need-mul-slot Inv-loop μ-loop
-mul-slot c = ?
+mul-slot c = search needs
 
--- src/inner/holds.rt:84:20
 array-copy-out-slot : tie.Need-array-copy-out-slot Inv-loop μ-loop
-array-copy-out-slot c = ?
+array-copy-out-slot c = search needs
 
--- src/inner/holds.rt:85:9
 add-n : tie.Need-add-n Inv-loop μ-loop
-add-n c = ?
+add-n c = search needs
 
--- src/inner/holds.rt:87:17
 index-requires : tie.Need-index-requires Inv-loop μ-loop
-index-requires c κs = ?
+index-requires c κs = search needs
 
--- src/inner/holds.rt:87:17
 cast-i : tie.Need-cast-i Inv-loop μ-loop
-cast-i c = ?
+cast-i c = search needs
 
--- src/inner/holds.rt:88:18
 mul-ep : tie.Need-mul-ep Inv-loop μ-loop
-mul-ep c = ?
+mul-ep c = search needs
 
--- src/inner/holds.rt:88:18
 element-copy-out-ep : tie.Need-element-copy-out-ep Inv-loop μ-loop
-element-copy-out-ep c = ?
+element-copy-out-ep c = search needs
 
--- src/inner/holds.rt:89:33
 open-hold-requires : tie.Need-open-hold-requires Inv-loop μ-loop
-open-hold-requires c κs = ?
+open-hold-requires c κs = search needs
 
--- src/inner/holds.rt:89:28
 enum-known-k : tie.Need-enum-known-k Inv-loop μ-loop
-enum-known-k c = ?
+enum-known-k c = search needs
 
--- src/inner/holds.rt:90:13
 enum-told : tie.Need-enum-told Inv-loop μ-loop
-enum-told c = ?
+enum-told c = search needs
 
--- src/inner/holds.rt:83:5
 loop-less : tie.Need-loop-less Inv-loop μ-loop
-loop-less c = ?
+loop-less c = search needs
 
--- src/inner/holds.rt:83:5
 loop-again : tie.Need-loop-again Inv-loop μ-loop
-loop-again c = ?
+loop-again c =
+    let i = c .before .before .before .before .before .before .before .before .loop .inv in
+    let l : c .before .before .before .before .before .before .before .before .loop .n < 4 = c .before .before .before .before .before .before .before .loop-test .taken in
+    let f = i .1 in
+    (search needs, f, skipped (i .2) _ (omega arith) refl (gave (c .before .before)) (c .enum-told .given .1))
 
--- src/inner/holds.rt:92:27
 mul-fewer : tie.Need-mul-fewer Inv-loop μ-loop
-mul-fewer c = ?
+mul-fewer c = omega (arith, inside c)
 
--- src/inner/holds.rt:92:27
 element-copy-out-fewer : tie.Need-element-copy-out-fewer Inv-loop μ-loop
-element-copy-out-fewer c = ?
+element-copy-out-fewer c = omega (arith, inside c)
 
--- src/inner/holds.rt:92:13
 fewer-requires : tie.Need-fewer-requires Inv-loop μ-loop
-fewer-requires c κs = ?
+fewer-requires c κs = search needs
 
--- src/inner/holds.rt:93:12
 reaps-requires : tie.Need-reaps-requires Inv-loop μ-loop
-reaps-requires c κs = ?
+reaps-requires c κs = search needs
 
--- src/inner/holds.rt:95:13
 mul-waiters : tie.Need-mul-waiters Inv-loop μ-loop
-mul-waiters c = ?
+mul-waiters c = omega (arith, room (c .before .before .before .before .before .before .before .before .before .before .before .before .before))
 
--- src/inner/holds.rt:95:13
 array-set-from-waiters : tie.Need-array-set-from-waiters Inv-loop μ-loop
-array-set-from-waiters c = ?
+array-set-from-waiters c = room (c .before .before .before .before .before .before .before .before .before .before .before .before .before)
 
--- src/inner/holds.rt:96:13
 add-woken : tie.Need-add-woken Inv-loop μ-loop
-add-woken c = ?
+add-woken c = omega (arith, room (c .before .before .before .before .before .before .before .before .before .before .before .before .before))
 
--- src/inner/holds.rt:98:13
 mul-b : tie.Need-mul-b Inv-loop μ-loop
-mul-b c = ?
+mul-b c = omega (arith, inside (c .before .before .before .before .before))
 
--- src/inner/holds.rt:98:13
 element-set-from-b : tie.Need-element-set-from-b Inv-loop μ-loop
-element-set-from-b c = ?
+element-set-from-b c = omega (arith, inside (c .before .before .before .before .before))
 
--- src/inner/holds.rt:83:5
 loop-less-2 : tie.Need-loop-less-2 Inv-loop μ-loop
-loop-less-2 c = ?
+loop-less-2 c = search needs
 
--- src/inner/holds.rt:83:5
 loop-again-2 : tie.Need-loop-again-2 Inv-loop μ-loop
-loop-again-2 c = ?
+loop-again-2 c =
+    let i = c .before .before .before .before .before .before .before .before .before .before .before .before .before .before .loop .inv in
+    let l : c .before .before .before .before .before .before .before .before .before .before .before .before .before .before .loop .n < 4 = c .before .before .before .before .before .before .before .before .before .before .before .before .before .loop-test .taken in
+    let f = i .1 in
+    (search needs, f, reaped (i .2) _ (omega arith) refl _ _ (gave (c .before .before .before .before .before .before .before .before)) (c .before .before .before .before .before .before .k .given .1) (c .before .before .before .fewer .ensures) (sym (c .before .before .reaps .ensures) ∙ c .before .if1 .taken) (room (c .before .before .before .before .before .before .before .before .before .before .before .before .before)))
 
--- src/inner/holds.rt:101:9
 mul-b-2 : tie.Need-mul-b-2 Inv-loop μ-loop
-mul-b-2 c = ?
+mul-b-2 c = omega (arith, inside (c .before .before .before .before))
 
--- src/inner/holds.rt:101:9
 element-set-from-b-2 : tie.Need-element-set-from-b-2 Inv-loop μ-loop
-element-set-from-b-2 c = ?
+element-set-from-b-2 c = omega (arith, inside (c .before .before .before .before))
 
--- src/inner/holds.rt:83:5
 loop-less-3 : tie.Need-loop-less-3 Inv-loop μ-loop
-loop-less-3 c = ?
+loop-less-3 c = search needs
 
--- src/inner/holds.rt:83:5
 loop-again-3 : tie.Need-loop-again-3 Inv-loop μ-loop
-loop-again-3 c = ?
+loop-again-3 c =
+    let i = c .before .before .before .before .before .before .before .before .before .before .before .before .before .loop .inv in
+    let l : c .before .before .before .before .before .before .before .before .before .before .before .before .before .loop .n < 4 = c .before .before .before .before .before .before .before .before .before .before .before .before .loop-test .taken in
+    let f = i .1 in
+    (search needs, f, kept (i .2) _ (omega arith) refl _ _ (gave (c .before .before .before .before .before .before .before)) (c .before .before .before .before .before .k .given .1) (c .before .before .fewer .ensures) (sym (c .before .reaps .ensures) ∙ c .if1 .left))
 
--- src/inner/holds.rt:72:1
 returns : tie.Need-returns Inv-loop μ-loop
-returns c = ?
+returns c = let i = c .before .loop .inv in let f = i .1 in let l : 4 ≤ c .before .loop .n = c .loop-test .left in done _ _ _ (omega arith) (i .2)
 
 pub release-holds-spec : {M : Type 1} → statement M
 release-holds-spec =
