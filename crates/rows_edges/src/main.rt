@@ -3,7 +3,6 @@
 use cap::CapId;
 use cap::Slot;
 use cap::SlotAnswer;
-use capslots::Row;
 use capslots::Table;
 use libc::STDOUT_FILENO;
 use manifest::AgentEntry;

@@ -1,3 +1,4 @@
+-- `capslots::drain` meets its contract. Assumes nothing.
 use Rattle.laws.proofs.Cases.{cases}
 use Rattle.capslots.specs.Rows.{drainOf}
 use borrow.Author.Needs.{needs}

@@ -1,3 +1,4 @@
+-- `capslots::get` meets its contract: a row of the table is read by `cap::from_slot`. Assumes nothing.
 use Rattle.laws.proofs.Cases.{cases}
 use Rattle.capslots.specs.Rows.{getOf}
 use borrow.Author.Needs.{needs}

@@ -1,3 +1,4 @@
+-- `capslots::holds` meets its contract: the four tests together are `some` of the rule. Assumes nothing.
 use Rattle.laws.proofs.Cases.{cases}
 use Rattle.laws.specs.Every.{some}
 use Rattle.capslots.specs.Rows.{holdsOf}

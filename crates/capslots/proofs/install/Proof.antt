@@ -1,3 +1,4 @@
+-- `capslots::install` meets its contract: its tests come in the rule's order. Assumes nothing.
 use Rattle.laws.proofs.Cases.{cases}
 use Rattle.capslots.specs.Rows.{installOf}
 use borrow.Author.Needs.{needs}

@@ -1,3 +1,4 @@
+-- `capslots::seed` meets its contract: the four slots are those that the list's words stand for. Assumes nothing.
 use Rattle.laws.proofs.Cases.{cases}
 use Rattle.capslots.specs.Rows.{seedOf}
 use borrow.Author.Needs.{needs}

@@ -1,3 +1,4 @@
+-- `capslots::is_endpoint` meets its contract: each class by itself. Assumes nothing.
 use borrow.Author.Needs.{needs}
 use Rattle.capslots.proofs.moves.is_endpoint.Statement.{statement}
 use Rattle.capslots.proofs.moves.is_endpoint.Tie as tie
