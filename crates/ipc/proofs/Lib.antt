@@ -1,4 +1,5 @@
 pub mod Openings
+pub mod Guards
 pub mod Keeps
 pub mod KeepsCalls
 pub mod Bools

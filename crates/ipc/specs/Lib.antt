@@ -11,4 +11,5 @@ pub mod Observe
 pub mod Holds
 pub mod Revoke
 pub mod Waiters
+pub mod Border
 pub mod Answers

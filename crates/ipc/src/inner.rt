@@ -7,6 +7,8 @@ pub mod queue;
 pub mod revocation;
 pub mod waiters;
 
+pub use counts::note_authority_refusal;
+pub use counts::note_state_refusal;
 pub use counts::raised;
 pub use creation::create;
 pub use holds::register_holds;

@@ -1,21 +1,18 @@
 // A channel ended: both ends die and the mailbox is emptied, so that its places can be used again under another generation.
 ghost use mathlib.Core.Path.{_≡_};
-ghost use Rattle.ipc.specs.State.{freshMailbox};
 ghost use Rattle.ipc.specs.Sound.{Sound};
 ghost use Rattle.ipc.specs.Revoke.{killed as killedOf, revokeOf};
 use crate::answers::RevokeAnswer;
 use crate::answers::Revoking;
 use crate::inner::counts::raised;
+use crate::making::fresh_mailbox;
 use crate::opening::Opening;
 use crate::opening::open_any;
 use crate::state::Endpoint;
 use crate::state::MAX_DEPTH;
 use crate::state::MAX_ENDPOINTS;
-use crate::state::Mailbox;
 use crate::state::Message;
 use crate::state::Table;
-use crate::state::TaskId;
-use crate::state::Waiter;
 use cap::CapId;
 
 // An end of mailbox `k` dies, and keeps its generation: an id that named it goes on naming nothing.
@@ -27,24 +24,6 @@ fn killed(mut ep: Endpoint, k: usize) -> Endpoint
         return ep;
     }
     ep
-}
-
-fn fresh_mailbox() -> Mailbox
-    ensures { λ r. ⌜ r ≡ freshMailbox ⌝ }
-{
-    let nobody = Waiter {
-        present: false,
-        task: TaskId { slot: 0, epoch: 0 },
-    };
-    Mailbox {
-        live: false,
-        head: 0,
-        tail: 0,
-        len: 0,
-        waiter: nobody,
-        send_holders: 0,
-        auto_reap: false,
-    }
 }
 
 pub fn revoke_channel(mut t: Table, cap: CapId) -> Revoking

@@ -1,18 +1,13 @@
 use Rattle.laws.proofs.Cases.{cases}
-use Rattle.ipc.specs.Opening.{openOf, openEither, openAny, openHold}
+use Rattle.ipc.specs.Opening.{openEither}
 use Rattle.ipc.proofs.Openings.{openings}
 use borrow.Author.Needs.{needs}
 use Rattle.ipc.proofs.opening.open_either.Statement.{statement}
 use Rattle.ipc.proofs.opening.open_either.Tie as tie
-use Rattle.ipc.proofs.opening.open_either.Reads as reads
-use Rattle.ipc.proofs.opening.open_either.Lts as lts
-use Rattle.ipc.proofs.opening.open.Reads as open-reads
 
--- src/opening.rt:39:29
 open-requires : tie.Need-open-requires
 open-requires c κs = search needs
 
--- src/opening.rt:39:24
 enum-known-k : tie.Need-enum-known-k
 enum-known-k c = search needs
 
@@ -20,16 +15,13 @@ enum-known-k c = search needs
 enum-told : tie.Need-enum-told
 enum-told c = search needs
 
--- src/opening.rt:40:9
 open-requires-2 : tie.Need-open-requires-2
 open-requires-2 c κs = search needs
 
--- src/opening.rt:40:9
 returns : tie.Need-returns
 unfolding openEither
 returns c = search (openings, cases)
 
--- src/opening.rt:36:1
 returns-2 : tie.Need-returns-2
 unfolding openEither
 returns-2 c = search (openings, cases)

@@ -1,4 +1,4 @@
-use mathlib.Core.Path.{_≡_, refl, sym, _∙_}
+use mathlib.Core.Path.{refl, sym, _∙_}
 use Prim.Native.Nat.{_<_}
 use native.Mathlib.Omega.{arith}
 use Rattle.laws.proofs.Cases.{cases, at}
@@ -7,14 +7,6 @@ use Rattle.ipc.specs.Create.{createOf}
 use borrow.Author.Needs.{needs}
 use Rattle.ipc.proofs.inner.creation.create.Statement.{statement}
 use Rattle.ipc.proofs.inner.creation.create.Tie as tie
-use Rattle.ipc.proofs.inner.creation.create.Reads as reads
-use Rattle.ipc.proofs.inner.creation.create.Lts as lts
-use Rattle.cap.proofs.CapId.new.Reads as new-reads
-use Rattle.ipc.proofs.inner.creation.endpoint.Reads as endpoint-reads
-use Rattle.ipc.proofs.inner.creation.free_endpoint.Reads as free-endpoint-reads
-use Rattle.ipc.proofs.inner.creation.free_mailbox.Reads as free-mailbox-reads
-use Rattle.ipc.proofs.inner.creation.mailbox.Reads as mailbox-reads
-use Rattle.mint.proofs.next_generation.Reads as next-generation-reads
 
 -- the places that were found are within the arrays
 box : (c : tie.After-known-told) → c .before .k .given .0 .0 < 32
@@ -35,118 +27,90 @@ receiver c =
     let z = c .before .before .before .before .before .before .before .before .before .before .before .before .pre .sizes in
     omega arith
 
--- src/inner/creation.rt:87:24
 free-mailbox-requires : tie.Need-free-mailbox-requires
 free-mailbox-requires c κs = search needs
 
--- src/inner/creation.rt:87:19
 enum-known-k : tie.Need-enum-known-k
 enum-known-k c = search needs
 
--- src/inner/creation.rt:89:21
 enum-told : tie.Need-enum-told
 enum-told c = search needs
 
--- src/inner/creation.rt:88:9
 returns : tie.Need-returns
 unfolding createOf
 returns c = search cases
 
--- src/inner/creation.rt:93:24
 free-endpoint-requires : tie.Need-free-endpoint-requires
 free-endpoint-requires c κs = search needs
 
--- src/inner/creation.rt:93:19
 enum-known-s : tie.Need-enum-known-s
 enum-known-s c = search needs
 
--- src/inner/creation.rt:95:21
 enum-told-2 : tie.Need-enum-told-2
 enum-told-2 c = search needs
 
--- src/inner/creation.rt:94:9
 returns-2 : tie.Need-returns-2
 unfolding createOf
 returns-2 c = search cases
 
--- src/inner/creation.rt:99:41
 add-free-endpoint : tie.Need-add-free-endpoint
 add-free-endpoint c = omega (arith, sender c)
 
--- src/inner/creation.rt:99:24
 free-endpoint-requires-2 : tie.Need-free-endpoint-requires-2
 free-endpoint-requires-2 c κs = search needs
 
--- src/inner/creation.rt:99:19
 enum-known-r : tie.Need-enum-known-r
 enum-known-r c = search needs
 
--- src/inner/creation.rt:101:21
 enum-told-3 : tie.Need-enum-told-3
 enum-told-3 c = search needs
 
--- src/inner/creation.rt:100:9
 returns-3 : tie.Need-returns-3
 unfolding createOf
 returns-3 c = search cases
 
--- src/inner/creation.rt:106:22
 mailbox-requires : tie.Need-mailbox-requires
 mailbox-requires c κs = search needs
 
--- src/inner/creation.rt:106:5
 mul-t17 : tie.Need-mul-t17
 mul-t17 c = omega (arith, box (c .before .before .before .before .before .before .before .before .before))
 
--- src/inner/creation.rt:106:5
 element-set-from-t : tie.Need-element-set-from-t
 element-set-from-t c = omega (arith, box (c .before .before .before .before .before .before .before .before .before))
 
--- src/inner/creation.rt:107:22
 endpoint-requires : tie.Need-endpoint-requires
 endpoint-requires c κs = omega (arith, box (c .before .before .before .before .before .before .before .before .before))
 
--- src/inner/creation.rt:107:5
 mul-t : tie.Need-mul-t
 mul-t c = omega (arith, sender (c .before .before .before .before .before .before))
 
--- src/inner/creation.rt:107:5
 element-set-from-t-2 : tie.Need-element-set-from-t-2
 element-set-from-t-2 c = omega (arith, sender (c .before .before .before .before .before .before))
 
--- src/inner/creation.rt:108:22
 endpoint-requires-2 : tie.Need-endpoint-requires-2
 endpoint-requires-2 c κs = omega (arith, box (c .before .before .before .before .before .before .before .before .before .before))
 
--- src/inner/creation.rt:108:5
 mul-t17-2 : tie.Need-mul-t17-2
 mul-t17-2 c = omega (arith, receiver (c .before .before .before))
 
--- src/inner/creation.rt:108:5
 element-set-from-t-3 : tie.Need-element-set-from-t-3
 element-set-from-t-3 c = omega (arith, receiver (c .before .before .before))
 
--- src/inner/creation.rt:109:18
 next-generation-requires : tie.Need-next-generation-requires
 next-generation-requires c κs = search needs
 
--- src/inner/creation.rt:111:26
 cast-new : tie.Need-cast-new
 cast-new c = omega (arith, sender (c .before .before .before .before .before .before .before .before))
 
--- src/inner/creation.rt:111:15
 new-requires : tie.Need-new-requires
 new-requires c κs = search needs
 
--- src/inner/creation.rt:112:26
 cast-new-2 : tie.Need-cast-new-2
 cast-new-2 c = omega (arith, receiver (c .before .before .before .before .before))
 
--- src/inner/creation.rt:112:15
 new-requires-2 : tie.Need-new-requires-2
 new-requires-2 c κs = search needs
 
--- src/inner/creation.rt:83:1
 returns-4 : tie.Need-returns-4
 unfolding createOf
 returns-4 c = rw (c .before .before .before .before .before .mailbox .ensures, c .before .before .before .before .endpoint .ensures, c .before .before .before .endpoint2 .ensures, c .before .before .next-generation .ensures, c .before .new .ensures, c .new2 .ensures) (at _ _ _ (c .before .before .before .before .before .before .before .before .before .before .before .before .before .before .before .before .before .free-mailbox .ensures) (c .before .before .before .before .before .before .before .before .before .before .before .before .before .before .before .k .given .1) (at _ _ _ (c .before .before .before .before .before .before .before .before .before .before .before .before .before .free-endpoint .ensures) (c .before .before .before .before .before .before .before .before .before .before .before .s .given .1) (at _ _ _ (c .before .before .before .before .before .before .before .before .before .free-endpoint2 .ensures) (c .before .before .before .before .before .before .before .r .given .1) refl)))

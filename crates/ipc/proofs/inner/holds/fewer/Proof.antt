@@ -5,18 +5,13 @@ use Rattle.ipc.specs.State.{withHolders}
 use borrow.Author.Needs.{needs}
 use Rattle.ipc.proofs.inner.holds.fewer.Statement.{statement}
 use Rattle.ipc.proofs.inner.holds.fewer.Tie as tie
-use Rattle.ipc.proofs.inner.holds.fewer.Reads as reads
-use Rattle.ipc.proofs.inner.holds.fewer.Lts as lts
 
--- src/inner/holds.rt:30:26
 sub-b : tie.Need-sub-b
 sub-b c = search needs
 
--- src/inner/holds.rt:31:9
 returns : tie.Need-returns
 returns c = search needs
 
--- src/inner/holds.rt:26:1
 returns-2 : tie.Need-returns-2
 returns-2 c = ap (λ (n : ℕ). withHolders (c .before .before .args .b) n) (omega arith)
 

@@ -2,17 +2,12 @@ use mathlib.Core.Path.{_≡_, sym, _∙_}
 use native.Mathlib.Omega.{arith}
 use borrow.Author.Tests.{not-true}
 use Rattle.laws.proofs.Cases.{cases, not-both}
-use Rattle.cap.specs.Rights.{sendRight}
-use Rattle.ipc.specs.Opening.{openingOf, eitherOf}
-use Rattle.ipc.specs.Observe.{queuedOf, holdersOf}
+use Rattle.ipc.specs.Opening.{eitherOf}
+use Rattle.ipc.specs.Observe.{queuedOf}
 use Rattle.ipc.proofs.Openings.{openings, either-gave, either-within, Within}
 use borrow.Author.Needs.{needs}
 use Rattle.ipc.proofs.inner.looks.queued.Statement.{statement}
 use Rattle.ipc.proofs.inner.looks.queued.Tie as tie
-use Rattle.ipc.proofs.inner.looks.queued.Reads as reads
-use Rattle.ipc.proofs.inner.looks.queued.Lts as lts
-use Rattle.cap.proofs.CapId.index.Reads as index-reads
-use Rattle.ipc.proofs.opening.open_either.Reads as open-either-reads
 
 -- what `open_either` gave is what the rule asks
 gave : (c : tie.After-open-either) → let a = c .before .before .before .args in c .open-either .result ≡ eitherOf (a .t1) (a .cap)
@@ -22,52 +17,40 @@ gave c = either-gave _ _ _ (c .before .before .before .pre) _ (c .before .before
 inside : (c : tie.After-known-told) → Within (c .before .before .before .before .before .before .args .t1) (c .before .k .given .0 .0)
 inside c = either-within _ _ _ (c .before .before .before .before .before .before .pre) (sym (gave (c .before .before .before)) ∙ c .before .k .given .1)
 
--- src/inner/looks.rt:20:13
 index-requires : tie.Need-index-requires
 index-requires c κs = search needs
 
--- src/inner/looks.rt:20:13
 cast-i : tie.Need-cast-i
 cast-i c = search needs
 
--- src/inner/looks.rt:21:14
 mul-ep : tie.Need-mul-ep
 mul-ep c = search needs
 
--- src/inner/looks.rt:21:14
 element-copy-out-ep : tie.Need-element-copy-out-ep
 element-copy-out-ep c = search needs
 
--- src/inner/looks.rt:22:29
 open-either-requires : tie.Need-open-either-requires
 open-either-requires c κs = search needs
 
--- src/inner/looks.rt:22:24
 enum-known-k : tie.Need-enum-known-k
 enum-known-k c = search needs
 
--- src/inner/looks.rt:23:9
 enum-told : tie.Need-enum-told
 enum-told c = search needs
 
--- src/inner/looks.rt:23:9
 returns : tie.Need-returns
 unfolding queuedOf
 returns c = search (cases, openings, gave)
 
--- src/inner/looks.rt:25:13
 mul-b : tie.Need-mul-b
 mul-b c = omega (arith, inside c)
 
--- src/inner/looks.rt:25:13
 element-copy-out-b : tie.Need-element-copy-out-b
 element-copy-out-b c = omega (arith, inside c)
 
--- src/inner/looks.rt:27:9
 returns-2 : tie.Need-returns-2
 returns-2 c = absurd (not-both _ (inside (c .before .before .before) .live) (not-true _ (c .if1 .taken)))
 
--- src/inner/looks.rt:16:1
 returns-3 : tie.Need-returns-3
 unfolding queuedOf
 returns-3 c = search (cases, openings, gave)

@@ -1,18 +1,13 @@
 use mathlib.Core.Path.{_≡_, sym, _∙_}
 use native.Mathlib.Omega.{arith}
-use borrow.Author.Tests.{not-true}
-use Rattle.laws.proofs.Cases.{cases, not-both}
+use Rattle.laws.proofs.Cases.{cases}
 use Rattle.cap.specs.Rights.{sendRight}
-use Rattle.ipc.specs.Opening.{openingOf, eitherOf}
-use Rattle.ipc.specs.Observe.{queuedOf, holdersOf}
+use Rattle.ipc.specs.Opening.{openingOf}
+use Rattle.ipc.specs.Observe.{holdersOf}
 use Rattle.ipc.proofs.Openings.{openings, open-gave, opens-within, Within}
 use borrow.Author.Needs.{needs}
 use Rattle.ipc.proofs.inner.looks.send_holders.Statement.{statement}
 use Rattle.ipc.proofs.inner.looks.send_holders.Tie as tie
-use Rattle.ipc.proofs.inner.looks.send_holders.Reads as reads
-use Rattle.ipc.proofs.inner.looks.send_holders.Lts as lts
-use Rattle.cap.proofs.CapId.index.Reads as index-reads
-use Rattle.ipc.proofs.opening.open.Reads as open-reads
 
 -- what `open` gave is what the rule asks
 gave : (c : tie.After-open) → let a = c .before .before .before .args in c .open .result ≡ openingOf (a .t1) (a .cap) sendRight
@@ -22,48 +17,37 @@ gave c = open-gave _ _ _ (c .before .before .before .pre) _ _ (c .before .before
 inside : (c : tie.After-known-told) → Within (c .before .before .before .before .before .before .args .t1) (c .before .k .given .0 .0)
 inside c = opens-within _ _ _ _ (c .before .before .before .before .before .before .pre) (sym (gave (c .before .before .before)) ∙ c .before .k .given .1)
 
--- src/inner/looks.rt:37:13
 index-requires : tie.Need-index-requires
 index-requires c κs = search needs
 
--- src/inner/looks.rt:37:13
 cast-i : tie.Need-cast-i
 cast-i c = search needs
 
--- src/inner/looks.rt:38:14
 mul-ep : tie.Need-mul-ep
 mul-ep c = search needs
 
--- src/inner/looks.rt:38:14
 element-copy-out-ep : tie.Need-element-copy-out-ep
 element-copy-out-ep c = search needs
 
--- src/inner/looks.rt:39:29
 open-requires : tie.Need-open-requires
 open-requires c κs = search needs
 
--- src/inner/looks.rt:39:24
 enum-known-k : tie.Need-enum-known-k
 enum-known-k c = search needs
 
--- src/inner/looks.rt:40:9
 enum-told : tie.Need-enum-told
 enum-told c = search needs
 
--- src/inner/looks.rt:40:9
 returns : tie.Need-returns
 unfolding holdersOf
 returns c = search (cases, openings, gave)
 
--- src/inner/looks.rt:42:13
 mul-b : tie.Need-mul-b
 mul-b c = omega (arith, inside c)
 
--- src/inner/looks.rt:42:13
 element-copy-out-b : tie.Need-element-copy-out-b
 element-copy-out-b c = omega (arith, inside c)
 
--- src/inner/looks.rt:33:1
 returns-2 : tie.Need-returns-2
 unfolding holdersOf
 returns-2 c = search (cases, openings, gave)

@@ -3,19 +3,14 @@ use Rattle.ipc.specs.Revoke.{killed}
 use borrow.Author.Needs.{needs}
 use Rattle.ipc.proofs.inner.revocation.killed.Statement.{statement}
 use Rattle.ipc.proofs.inner.revocation.killed.Tie as tie
-use Rattle.ipc.proofs.inner.revocation.killed.Reads as reads
-use Rattle.ipc.proofs.inner.revocation.killed.Lts as lts
 
--- src/inner/revocation.rt:25:19
 cast-if1 : tie.Need-cast-if1
 cast-if1 c = search needs
 
--- src/inner/revocation.rt:27:9
 returns : tie.Need-returns
 unfolding killed
 returns c = search cases
 
--- src/inner/revocation.rt:22:1
 returns-2 : tie.Need-returns-2
 unfolding killed
 returns-2 c = search cases

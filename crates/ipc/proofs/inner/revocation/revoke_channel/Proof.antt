@@ -1,8 +1,7 @@
 -- `ipc::inner::revoke_channel` meets its contract. The first loop's invariant: the first `j` endpoints are killed where they are ends of
 -- mailbox k; the second's: the first `p` places of its ring are wiped. Nothing else of the table has changed. Assumes nothing.
-use mathlib.Core.Path.{_≡_, refl, sym, ap, _∙_}
-use mathlib.Core.List.{map}
-use Prim.Native.Nat.{ℕ, _+_, _*_, _-_, _≤_, _<_}
+use mathlib.Core.Path.{_≡_, refl, sym, _∙_}
+use Prim.Native.Nat.{ℕ, _+_, _*_, _-_, _≤_}
 use native.Mathlib.Numerals.{add-one}
 use native.Mathlib.Omega.{arith}
 use borrow.Author.Needs.{needs}
@@ -65,7 +64,7 @@ gave c = any-gave _ _ _ (c .before .before .before .pre) _ (c .before .before .i
 
 -- what opened is a live mailbox within the sizes and the arrays
 inside : (c : tie.After-known-told Inv-loop μ-loop Inv-loop2 μ-loop2) → Within (c .before .before .before .before .before .before .args .t1) (c .before .k .given .0 .0)
-inside c = any-within _ _ _ (c .before .before .before .before .before .before .pre) (sym (gave (c .before .before .before )) ∙ c .before .k .given .1)
+inside c = any-within _ _ _ (c .before .before .before .before .before .before .pre) (sym (gave (c .before .before .before)) ∙ c .before .k .given .1)
 
 index-requires : tie.Need-index-requires Inv-loop μ-loop Inv-loop2 μ-loop2
 index-requires c κs = search needs
@@ -99,13 +98,13 @@ raised-requires-2 : tie.Need-raised-requires-2 Inv-loop μ-loop Inv-loop2 μ-loo
 raised-requires-2 c κs = search needs
 
 returns-2 : tie.Need-returns-2 Inv-loop μ-loop Inv-loop2 μ-loop2
-returns-2 c = let w = inside (c .before .before .before ) in let l = live-below _ _ (c .before .before .before .before .before .before .before .before .before .pre) (w .live) in let g : _ ≤ c .before .before .before .before .k .given .0 .0 = c .before .before .if1 .taken in absurd (omega arith)
+returns-2 c = let w = inside (c .before .before .before) in let l = live-below _ _ (c .before .before .before .before .before .before .before .before .before .pre) (w .live) in let g : _ ≤ c .before .before .before .before .k .given .0 .0 = c .before .before .if1 .taken in absurd (omega arith)
 
 mul-b : tie.Need-mul-b Inv-loop μ-loop Inv-loop2 μ-loop2
-mul-b c = omega (arith, inside (c .before ))
+mul-b c = omega (arith, inside (c .before))
 
 element-copy-out-b : tie.Need-element-copy-out-b Inv-loop μ-loop Inv-loop2 μ-loop2
-element-copy-out-b c = omega (arith, inside (c .before ))
+element-copy-out-b c = omega (arith, inside (c .before))
 
 loop-holds : tie.Need-loop-holds Inv-loop μ-loop Inv-loop2 μ-loop2
 unfolding through
@@ -140,16 +139,16 @@ unfolding wiped
 loop2-holds c = (search needs, refl)
 
 mul-t41 : tie.Need-mul-t41 Inv-loop μ-loop Inv-loop2 μ-loop2
-mul-t41 c = omega (arith, inside (c .before .before .before .before .before .before .before ))
+mul-t41 c = omega (arith, inside (c .before .before .before .before .before .before .before))
 
 add-t42 : tie.Need-add-t42 Inv-loop μ-loop Inv-loop2 μ-loop2
-add-t42 c = omega (arith, inside (c .before .before .before .before .before .before .before ))
+add-t42 c = omega (arith, inside (c .before .before .before .before .before .before .before))
 
 mul-t43 : tie.Need-mul-t43 Inv-loop μ-loop Inv-loop2 μ-loop2
-mul-t43 c = omega (arith, inside (c .before .before .before .before .before .before .before ))
+mul-t43 c = omega (arith, inside (c .before .before .before .before .before .before .before))
 
 element-set-from-t-2 : tie.Need-element-set-from-t-2 Inv-loop μ-loop Inv-loop2 μ-loop2
-element-set-from-t-2 c = omega (arith, inside (c .before .before .before .before .before .before .before ))
+element-set-from-t-2 c = omega (arith, inside (c .before .before .before .before .before .before .before))
 
 add-p : tie.Need-add-p Inv-loop μ-loop Inv-loop2 μ-loop2
 add-p c = search needs
@@ -164,16 +163,16 @@ fresh-mailbox-requires : tie.Need-fresh-mailbox-requires Inv-loop μ-loop Inv-lo
 fresh-mailbox-requires c κs = search needs
 
 mul-t13 : tie.Need-mul-t13 Inv-loop μ-loop Inv-loop2 μ-loop2
-mul-t13 c = omega (arith, inside (c .before .before .before .before .before .before .before .before ))
+mul-t13 c = omega (arith, inside (c .before .before .before .before .before .before .before .before))
 
 element-set-from-t-3 : tie.Need-element-set-from-t-3 Inv-loop μ-loop Inv-loop2 μ-loop2
-element-set-from-t-3 c = omega (arith, inside (c .before .before .before .before .before .before .before .before ))
+element-set-from-t-3 c = omega (arith, inside (c .before .before .before .before .before .before .before .before))
 
 returns-3 : tie.Need-returns-3 Inv-loop μ-loop Inv-loop2 μ-loop2
 returns-3 c =
     let e : c .before .before .before .before .loop .j ≡ 64 = omega (arith, c .before .before .before .loop-test .left, c .before .before .before .before .loop .inv .0) in
     let g : c .before .before .loop2 .p ≡ 8 = omega (arith, c .before .loop2-test .left, c .before .before .loop2 .inv .0) in
-    revoked _ _ (c .before .before .before .before .before .before .before .before .before .k .given .0 .0) _ (gave (c .before .before .before .before .before .before .before .before .before .before .before )) (c .before .before .before .before .before .before .before .before .before .k .given .1)
+    revoked _ _ (c .before .before .before .before .before .before .before .before .before .k .given .0 .0) _ (gave (c .before .before .before .before .before .before .before .before .before .before .before)) (c .before .before .before .before .before .before .before .before .before .k .given .1)
     (ended (c .before .before .before .before .before .before .before .before .before .before .before .before .before .before .args .t1) (c .before .before .before .before .loop .t) (c .before .before .loop2 .t) _ _ (c .before .before .before .before .before .before .before .before .before .before .before .before .before .before .pre) (rw e at (c .before .before .before .before .loop .inv .1)) (rw g at (c .before .before .loop2 .inv .1)) (c .fresh-mailbox .ensures))
 
 pub revoke-channel-spec : {M : Type 1} → statement M

@@ -11,9 +11,7 @@ use Rattle.laws.proofs.Sweep.{Swept, swept-none, swept-yes, swept-no, swept-few
 use Rattle.ipc.specs.State.{freshMailbox, nobody, mailboxAt, withMailbox, withMailboxes, withWaiter}
 use Rattle.ipc.specs.Sound.{Sound}
 use Rattle.ipc.specs.Waiters.{waitsOn, withoutWaiter, clearOf}
-use Rattle.ipc.specs.declared.state.Mailbox.{Mailbox}
 use Rattle.ipc.specs.declared.state.TaskId.{TaskId}
-use Rattle.ipc.specs.declared.state.Waiter.{Waiter}
 use Rattle.ipc.specs.declared.state.Table.{Table}
 use Rattle.ipc.specs.declared.answers.Clearing.{Clearing}
 use Rattle.ipc.specs.declared.answers.ClearAnswer.the-variants.{Cleared}

@@ -1,0 +1,21 @@
+use mathlib.Core.Path.{refl}
+use Rattle.ipc.proofs.Guards.{refused, served}
+use borrow.Author.Needs.{needs}
+use Rattle.ipc.proofs.note_state_refusal.Statement.{statement}
+use Rattle.ipc.proofs.note_state_refusal.Tie as tie
+
+sound-requires : tie.Need-sound-requires
+sound-requires c κs = search needs
+
+returns : tie.Need-returns
+returns c = refused _ (c .before .sound .ensures) _ (c .if1 .taken) refl
+
+note-state-refusal-requires : tie.Need-note-state-refusal-requires
+note-state-refusal-requires c κs = search needs
+
+returns-2 : tie.Need-returns-2
+returns-2 c = served _ (c .before .before .sound .ensures) _ (c .before .if1 .left) (c .note-state-refusal .ensures)
+
+pub note-state-refusal-spec : {M : Type 1} → statement M
+note-state-refusal-spec =
+    tie.close (tie.spec sound-requires returns note-state-refusal-requires returns-2)
