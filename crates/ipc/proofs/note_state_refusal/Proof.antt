@@ -1,3 +1,4 @@
+-- `ipc::note_state_refusal` meets its contract. Assumes nothing.
 use mathlib.Core.Path.{refl}
 use Rattle.ipc.proofs.Guards.{refused, served}
 use borrow.Author.Needs.{needs}

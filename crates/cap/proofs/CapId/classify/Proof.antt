@@ -1,3 +1,4 @@
+-- `cap::CapId::classify` meets its contract. Assumes nothing.
 use Rattle.laws.proofs.Cases.{cases}
 use Rattle.cap.specs.Id.{classOf}
 use borrow.Author.Needs.{needs}

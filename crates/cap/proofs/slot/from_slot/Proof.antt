@@ -1,3 +1,4 @@
+-- `cap::slot::from_slot` meets its contract. Assumes nothing.
 use Rattle.laws.proofs.Cases.{cases}
 use Rattle.cap.specs.Slot.{fromSlot}
 use borrow.Author.Needs.{needs}

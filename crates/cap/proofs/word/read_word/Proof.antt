@@ -1,3 +1,4 @@
+-- `cap::word::read_word` meets its contract. Assumes nothing.
 use Rattle.laws.proofs.Cases.{cases}
 use Rattle.cap.specs.Word.{readWord}
 use borrow.Author.Needs.{needs}

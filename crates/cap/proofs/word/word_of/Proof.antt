@@ -1,3 +1,4 @@
+-- `cap::word::word_of` meets its contract. Assumes nothing.
 use Rattle.laws.proofs.Cases.{cases}
 use Rattle.cap.specs.Word.{wordOf}
 use borrow.Author.Needs.{needs}

@@ -1,3 +1,4 @@
+-- `ipc::making::fresh_table` meets its contract. Assumes nothing.
 use borrow.Author.Needs.{needs}
 use Rattle.ipc.proofs.making.fresh_table.Statement.{statement}
 use Rattle.ipc.proofs.making.fresh_table.Tie as tie

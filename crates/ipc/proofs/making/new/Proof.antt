@@ -1,3 +1,4 @@
+-- `ipc::making::new` meets its contract. Assumes nothing.
 use mathlib.Core.Path.{sym, _∙_}
 use Rattle.laws.proofs.Cases.{yes, no}
 use Rattle.ipc.specs.Make.{newOf}

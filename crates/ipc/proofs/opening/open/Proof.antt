@@ -1,3 +1,4 @@
+-- `ipc::opening::open` meets its contract. Each return passed or failed the tests that the rule makes, in its order. Assumes nothing.
 use Rattle.laws.proofs.Cases.{cases}
 use Rattle.ipc.specs.Opening.{openOf}
 use borrow.Author.Needs.{needs}

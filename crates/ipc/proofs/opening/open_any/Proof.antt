@@ -1,3 +1,4 @@
+-- `ipc::opening::open_any` meets its contract. Assumes nothing.
 use Rattle.laws.proofs.Cases.{cases}
 use Rattle.ipc.specs.Opening.{openAny}
 use borrow.Author.Needs.{needs}

@@ -1,3 +1,4 @@
+-- `ipc::opening::open_either` meets its contract. Assumes nothing.
 use Rattle.laws.proofs.Cases.{cases}
 use Rattle.ipc.specs.Opening.{openEither}
 use Rattle.ipc.proofs.Openings.{openings}

@@ -1,3 +1,4 @@
+-- `ipc::opening::open_hold` meets its contract. Assumes nothing.
 use Rattle.laws.proofs.Cases.{cases}
 use Rattle.ipc.specs.Opening.{openHold}
 use borrow.Author.Needs.{needs}

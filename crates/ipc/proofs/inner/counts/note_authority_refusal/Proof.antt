@@ -1,3 +1,4 @@
+-- `ipc::inner::counts::note_authority_refusal` meets its contract. Assumes nothing.
 use borrow.Author.Needs.{needs}
 use Rattle.ipc.proofs.inner.counts.note_authority_refusal.Statement.{statement}
 use Rattle.ipc.proofs.inner.counts.note_authority_refusal.Tie as tie

@@ -1,3 +1,4 @@
+-- `ipc::inner::counts::raised` meets its contract. Assumes nothing.
 use Rattle.laws.proofs.Cases.{cases}
 use Rattle.ipc.specs.Counts.{raised}
 use borrow.Author.Needs.{needs}

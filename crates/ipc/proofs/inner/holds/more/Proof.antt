@@ -1,3 +1,4 @@
+-- `ipc::inner::holds::more` meets its contract. Assumes nothing.
 use borrow.Author.Needs.{needs}
 use Rattle.ipc.proofs.inner.holds.more.Statement.{statement}
 use Rattle.ipc.proofs.inner.holds.more.Tie as tie

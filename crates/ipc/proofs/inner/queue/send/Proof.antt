@@ -1,3 +1,4 @@
+-- `ipc::inner::queue::send` meets its contract. What `open` gave is what the rule asks, and a mailbox that opens is live, so the arm for a dead one is never reached. Assumes nothing.
 use mathlib.Core.Path.{_≡_, sym, _∙_}
 use native.Mathlib.Omega.{arith}
 use borrow.Author.Tests.{not-true}

@@ -1,3 +1,4 @@
+-- `ipc::inner::queue::try_recv` meets its contract. As for `send`. Assumes nothing.
 use mathlib.Core.Path.{_≡_, sym, _∙_}
 use native.Mathlib.Omega.{arith}
 use borrow.Author.Tests.{not-true}

@@ -1,3 +1,4 @@
+-- `ipc::inner::revocation::killed` meets its contract. Assumes nothing.
 use Rattle.laws.proofs.Cases.{cases}
 use Rattle.ipc.specs.Revoke.{killed}
 use borrow.Author.Needs.{needs}
