@@ -2,6 +2,10 @@ pub mod Openings
 pub mod Guards
 pub mod Keeps
 pub mod KeepsCalls
+pub mod KeepsEnds
+pub mod KeepsCreate
+pub mod KeepsRevoke
+pub mod KeepsClear
 pub mod Bools
 pub mod Elements
 pub mod Shapes
