@@ -9,6 +9,9 @@ pub mod KeepsClear
 pub mod Bools
 pub mod Elements
 pub mod Shapes
+pub mod Rings
+pub mod Changes
+pub mod Rights
 pub mod Reading
 pub mod Last
 pub mod Fresh

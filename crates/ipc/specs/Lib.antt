@@ -13,3 +13,4 @@ pub mod Revoke
 pub mod Waiters
 pub mod Border
 pub mod Answers
+pub mod Views

@@ -1,0 +1,60 @@
+-- What is seen of a channel table, and when two tables are seen alike: the terms in which each call is said to change and to leave things.
+use mathlib.Core.Path.{_≡_}
+use mathlib.Core.Bool.{Bool}
+use mathlib.Core.List.{List, [], _∷_}
+use Prim.Native.Nat.{ℕ, zero, suc, _+_, _%_}
+use Rattle.cap.specs.declared.CapId.{CapId}
+use Rattle.cap.specs.declared.CapRights.{CapRights}
+use Rattle.ipc.specs.State.{mailboxAt, mailboxLive, messageAt}
+use Rattle.ipc.specs.Opening.{openingOf}
+use Rattle.ipc.specs.declared.state.Message.{Message}
+use Rattle.ipc.specs.declared.state.Waiter.{Waiter}
+use Rattle.ipc.specs.declared.state.Table.{Table}
+
+-- ---- one mailbox
+-- n places of a ring of depth d, from place `at` on
+unfoldable pub ringFrom : (ℕ → Message) → ℕ → ℕ → ℕ → List Message
+ringFrom place d at zero = []
+ringFrom place d at (suc n) = place at ∷ ringFrom place d ((at + 1) % d) n
+
+-- what waits in mailbox k, oldest first
+unfoldable pub queueOf : Table → ℕ → List Message
+queueOf t k = ringFrom (messageAt t k) (t .sizes .depth) (mailboxAt t k .tail) (mailboxAt t k .len)
+
+-- who waits on it
+abbrev pub waiterOf : Table → ℕ → Waiter
+waiterOf t k = mailboxAt t k .waiter
+
+-- how many slots hold its send end
+abbrev pub holdsOf : Table → ℕ → ℕ
+holdsOf t k = mailboxAt t k .«send_holders»
+
+-- whether it was created ephemeral
+abbrev pub ephemeralOf : Table → ℕ → Bool
+ephemeralOf t k = mailboxAt t k .«auto_reap»
+
+-- ---- two tables, before and after
+-- mailbox k is seen as it was
+pub record Alike (t u : Table) (k : ℕ) : Type 0 where
+  pub live : mailboxLive u k ≡ mailboxLive t k
+  pub ephemeral : ephemeralOf u k ≡ ephemeralOf t k
+  pub queue : queueOf u k ≡ queueOf t k
+  pub waiter : waiterOf u k ≡ waiterOf t k
+  pub holds : holdsOf u k ≡ holdsOf t k
+
+-- the sizes, what each id opens by each right, and the next generation are as they were
+pub record Steady (t u : Table) : Type 0 where
+  pub sizes : u .sizes ≡ t .sizes
+  pub opening : (c : CapId) (need : CapRights) → openingOf u c need ≡ openingOf t c need
+  pub next : u .«next_gen» ≡ t .«next_gen»
+
+-- all but mailbox k is as it was
+pub record OnlyMailbox (t u : Table) (k : ℕ) : Type 0 where
+  pub steady : Steady t u
+  pub others : (j : ℕ) → (j ≡ k → ⊥) → Alike t u j
+  pub counts : u .refusals ≡ t .refusals
+
+-- all but the counts is as it was
+pub record OnlyCounts (t u : Table) : Type 0 where
+  pub steady : Steady t u
+  pub mailboxes : (k : ℕ) → Alike t u k
