@@ -1,26 +1,20 @@
 -- What a table with its counts anew or with one mailbox anew shows: all else is seen as it was. Assumes nothing.
-use mathlib.Core.Path.{_≡_, refl, sym, ap, _∙_}
+use mathlib.Core.Path.{_≡_, refl, ap, _∙_}
 use mathlib.Core.Bool.{Bool, true, false}
-use mathlib.Core.List.{List, [], _∷_}
-use Prim.Native.Nat.{ℕ, zero, suc, _+_, _%_, _<_, _≤_}
+use mathlib.Core.List.{List, []}
+use Prim.Native.Nat.{ℕ, _+_, _<_}
 use native.Mathlib.Nat.{mod-lt}
 use native.Mathlib.Omega.{arith}
 use lib.ListN.{length, set}
 use lib.Seq.{getD-set-other}
-use Rattle.cap.specs.declared.CapId.{CapId}
-use Rattle.cap.specs.declared.CapRights.{CapRights}
-use Rattle.cap.specs.declared.slot.Slot.{Slot}
 use Rattle.ipc.specs.State.{freshMailbox, mailboxAt, mailboxLive, messageAt, withMailbox, withMailboxes, withRefusals}
 use Rattle.ipc.specs.Sound.{Sound}
-use Rattle.ipc.specs.Opening.{openingOf, eitherOf, holdOf, openEither, openHold, opened}
+use Rattle.ipc.specs.Opening.{openingOf}
 use Rattle.ipc.specs.Views.{ringFrom, queueOf, Alike, Steady, OnlyMailbox, OnlyCounts}
 use Rattle.ipc.specs.declared.state.Mailbox.{Mailbox}
-use Rattle.ipc.specs.declared.state.Message.{Message}
 use Rattle.ipc.specs.declared.state.Refusals.{Refusals}
 use Rattle.ipc.specs.declared.state.Table.{Table}
-use Rattle.ipc.specs.declared.opening.Opening.{Opening}
 use Rattle.ipc.proofs.Rings.{ring-same, ring-length}
-use Rattle.ipc.proofs.Openings.{live-below}
 
 -- ---- queues
 -- as many messages wait as the mailbox says

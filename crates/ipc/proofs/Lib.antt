@@ -19,3 +19,4 @@ pub mod DecidePlaces
 pub mod DecideEndpoints
 pub mod DecideMailboxes
 pub mod Decide
+pub mod AfterSend

@@ -12,12 +12,11 @@ use Rattle.cap.specs.Rights.{containsAll, sendRight, receiveRight}
 use Rattle.cap.specs.declared.CapId.{CapId}
 use Rattle.cap.specs.declared.CapRights.{CapRights}
 use Rattle.cap.specs.declared.slot.Slot.{Slot}
-use Rattle.ipc.specs.State.{endpointAt, endpointLive}
+use Rattle.ipc.specs.State.{endpointAt}
 use Rattle.ipc.specs.Sound.{Sound}
 use Rattle.ipc.specs.Opening.{openOf, openEither, openAny, openHold, openingOf, eitherOf, anyRightOf, holdOf, opened}
 use Rattle.ipc.specs.Views.{Steady}
 use Rattle.ipc.specs.declared.state.Table.{Table}
-use Rattle.ipc.specs.declared.opening.Opening.{Opening}
 use Rattle.ipc.specs.declared.opening.Opening.the-variants.{Opens, Shut}
 
 pub either-is : (t : Table) (c : CapId) → eitherOf t c ≡ opened (openingOf t c sendRight) (openingOf t c receiveRight) Opens
