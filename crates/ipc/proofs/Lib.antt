@@ -12,6 +12,7 @@ pub mod Shapes
 pub mod Rings
 pub mod Changes
 pub mod Rights
+pub mod Tasks
 pub mod Reading
 pub mod Last
 pub mod Fresh
@@ -20,3 +21,5 @@ pub mod DecideEndpoints
 pub mod DecideMailboxes
 pub mod Decide
 pub mod AfterSend
+pub mod AfterReceive
+pub mod AfterPark
