@@ -13,6 +13,7 @@ pub mod Rings
 pub mod Changes
 pub mod Rights
 pub mod Tasks
+pub mod Held
 pub mod Reading
 pub mod Last
 pub mod Fresh
@@ -23,3 +24,4 @@ pub mod Decide
 pub mod AfterSend
 pub mod AfterReceive
 pub mod AfterPark
+pub mod AfterRegister

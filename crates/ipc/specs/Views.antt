@@ -3,10 +3,14 @@ use mathlib.Core.Path.{_≡_}
 use mathlib.Core.Bool.{Bool}
 use mathlib.Core.List.{List, [], _∷_}
 use Prim.Native.Nat.{ℕ, zero, suc, _+_, _%_}
+use lib.Dec.{eqb}
+use Rattle.laws.specs.Pick.{pick}
 use Rattle.cap.specs.declared.CapId.{CapId}
 use Rattle.cap.specs.declared.CapRights.{CapRights}
+use Rattle.cap.specs.declared.slot.Slot.{Slot}
 use Rattle.ipc.specs.State.{mailboxAt, mailboxLive, messageAt}
-use Rattle.ipc.specs.Opening.{openingOf}
+use Rattle.ipc.specs.Counts.{raised}
+use Rattle.ipc.specs.Opening.{openingOf, holdOf, opened}
 use Rattle.ipc.specs.declared.state.Message.{Message}
 use Rattle.ipc.specs.declared.state.Waiter.{Waiter}
 use Rattle.ipc.specs.declared.state.Table.{Table}
@@ -32,6 +36,21 @@ holdsOf t k = mailboxAt t k .«send_holders»
 -- whether it was created ephemeral
 abbrev pub ephemeralOf : Table → ℕ → Bool
 ephemeralOf t k = mailboxAt t k .«auto_reap»
+
+-- ---- lists of slots
+-- whether a slot holds the send end of mailbox k, as 1 or 0
+unfoldable pub heldBy : Table → ℕ → Slot → ℕ
+heldBy t k x = opened (holdOf t x) 0 (λ j. pick (eqb j k) 1 0)
+
+-- how many slots of a list hold it
+unfoldable pub heldIn : Table → ℕ → List Slot → ℕ
+heldIn t k [] = 0
+heldIn t k (x ∷ xs) = heldBy t k x + heldIn t k xs
+
+-- a count raised n times
+unfoldable pub raisedBy : ℕ → ℕ → ℕ
+raisedBy zero count = count
+raisedBy (suc n) count = raisedBy n (raised count)
 
 -- ---- two tables, before and after
 -- mailbox k is seen as it was
