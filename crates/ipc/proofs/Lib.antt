@@ -25,3 +25,4 @@ pub mod AfterSend
 pub mod AfterReceive
 pub mod AfterPark
 pub mod AfterRegister
+pub mod AfterRelease
