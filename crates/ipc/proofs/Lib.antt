@@ -26,3 +26,5 @@ pub mod AfterReceive
 pub mod AfterPark
 pub mod AfterRegister
 pub mod AfterRelease
+pub mod AfterReleaseAll
+pub mod AfterReleaseFour
