@@ -28,3 +28,5 @@ pub mod AfterRegister
 pub mod AfterRelease
 pub mod AfterReleaseAll
 pub mod AfterReleaseFour
+pub mod NewChannel
+pub mod AfterCreate

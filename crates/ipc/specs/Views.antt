@@ -5,6 +5,8 @@ use mathlib.Core.List.{List, [], _∷_}
 use Prim.Native.Nat.{ℕ, zero, suc, _+_, _%_}
 use lib.Dec.{eqb}
 use Rattle.laws.specs.Pick.{pick}
+use Rattle.cap.specs.Id.{generationOf}
+use Rattle.cap.specs.Rights.{containsAll}
 use Rattle.cap.specs.declared.CapId.{CapId}
 use Rattle.cap.specs.declared.CapRights.{CapRights}
 use Rattle.cap.specs.declared.slot.Slot.{Slot}
@@ -14,6 +16,8 @@ use Rattle.ipc.specs.Opening.{openingOf, holdOf, opened}
 use Rattle.ipc.specs.declared.state.Message.{Message}
 use Rattle.ipc.specs.declared.state.Waiter.{Waiter}
 use Rattle.ipc.specs.declared.state.Table.{Table}
+use Rattle.ipc.specs.declared.opening.Opening.{Opening}
+use Rattle.ipc.specs.declared.opening.Opening.the-variants.{Opens, Shut}
 
 -- ---- one mailbox
 -- n places of a ring of depth d, from place `at` on
@@ -51,6 +55,11 @@ heldIn t k (x ∷ xs) = heldBy t k x + heldIn t k xs
 unfoldable pub raisedBy : ℕ → ℕ → ℕ
 raisedBy zero count = count
 raisedBy (suc n) count = raisedBy n (raised count)
+
+-- ---- one end
+-- what an id opens at a live end of mailbox k with generation g and right w: its generation is g, and w has the right that is asked for
+unfoldable pub endOpens : ℕ → CapRights → ℕ → CapId → CapRights → Opening
+endOpens g w k c need = pick (eqb g (generationOf c)) (pick (containsAll w need) (Opens k) Shut) Shut
 
 -- ---- two tables, before and after
 -- mailbox k is seen as it was
