@@ -30,3 +30,4 @@ pub mod AfterReleaseAll
 pub mod AfterReleaseFour
 pub mod NewChannel
 pub mod AfterCreate
+pub mod AfterRevoke
