@@ -31,3 +31,6 @@ pub mod AfterReleaseFour
 pub mod NewChannel
 pub mod AfterCreate
 pub mod AfterRevoke
+pub mod AfterClear
+pub mod AfterCounts
+pub mod Looks

@@ -5,6 +5,7 @@ use mathlib.Core.List.{List, [], _∷_}
 use Prim.Native.Nat.{ℕ, zero, suc, _+_, _%_}
 use lib.Dec.{eqb}
 use Rattle.laws.specs.Pick.{pick}
+use Rattle.laws.specs.Refusals as no
 use Rattle.cap.specs.Id.{generationOf}
 use Rattle.cap.specs.Rights.{containsAll}
 use Rattle.cap.specs.declared.CapId.{CapId}
@@ -14,6 +15,7 @@ use Rattle.ipc.specs.State.{mailboxAt, mailboxLive, messageAt}
 use Rattle.ipc.specs.Counts.{raised}
 use Rattle.ipc.specs.Opening.{openingOf, holdOf, opened}
 use Rattle.ipc.specs.declared.state.Message.{Message}
+use Rattle.ipc.specs.declared.state.Refusals.{Refusals}
 use Rattle.ipc.specs.declared.state.Waiter.{Waiter}
 use Rattle.ipc.specs.declared.state.Table.{Table}
 use Rattle.ipc.specs.declared.opening.Opening.{Opening}
@@ -55,6 +57,15 @@ heldIn t k (x ∷ xs) = heldBy t k x + heldIn t k xs
 unfoldable pub raisedBy : ℕ → ℕ → ℕ
 raisedBy zero count = count
 raisedBy (suc n) count = raisedBy n (raised count)
+
+-- ---- counts
+-- the counts after an answer of number n: BadCap raises authority, Full full, Busy state, and no other number a count
+unfoldable pub countsBy : ℕ → Refusals → Refusals
+countsBy n x =
+    pick (eqb n no.badCap) (record { authority = raised (x .authority); full = x .full; state = x .state })
+    (pick (eqb n no.full) (record { authority = x .authority; full = raised (x .full); state = x .state })
+    (pick (eqb n no.busy) (record { authority = x .authority; full = x .full; state = raised (x .state) })
+    x))
 
 -- ---- one end
 -- what an id opens at a live end of mailbox k with generation g and right w: its generation is g, and w has the right that is asked for
