@@ -1,10 +1,10 @@
 -- Park: its ways, and what each changes and leaves. Assumes nothing.
 use mathlib.Core.Path.{_≡_, refl, ap}
-use mathlib.Core.Bool.{Bool, true, false, _&&_, not}
+use mathlib.Core.Bool.{true, false, _&&_, not}
 use mathlib.Core.List.{[]}
 use Prim.Native.Nat.{ℕ, _-_, _<_, _≤_}
 use native.Mathlib.Omega.{arith}
-use borrow.Author.Tests.{eqb-true, eqb-false, ltb-true, ltb-false}
+use borrow.Author.Tests.{eqb-true, ltb-true, ltb-false}
 use lib.Dec.{eqb}
 use Rattle.laws.proofs.Cases.{all-pick}
 use Rattle.laws.proofs.Every.{and-left, and-right}
@@ -24,6 +24,7 @@ use Rattle.ipc.specs.declared.answers.Parking.{Parking}
 use Rattle.ipc.specs.declared.answers.ParkAnswer as park
 use Rattle.ipc.specs.declared.opening.Opening.the-variants.{Opens, Shut}
 use Rattle.ipc.proofs.Openings.{all-opened, opens-live, box-same}
+use Rattle.ipc.proofs.KeepsCalls.{uncancelled}
 use Rattle.ipc.proofs.Tasks.{other-waits, none-other}
 use Rattle.ipc.proofs.AfterReceive.{Gives, taken-gives}
 use Rattle.ipc.proofs.Changes.{queue-none, alike-same, steady-same, counts-anew, mailbox-anew}
@@ -52,10 +53,6 @@ pub data ParkWays (t : Table) (c : CapId) (task : TaskId) (r : Parking) : Type 0
   busy : (k : ℕ) → openingOf t c receiveRight ≡ Opens k → MayWait t k → waiterOf t k .present ≡ true → (waiterOf t k ≡ waiting task → ⊥) →
       r ≡ record { answer = park.the-variants.Busy; table = stateRaised t } → ParkWays t c task r
   parked : (k : ℕ) → openingOf t c receiveRight ≡ Opens k → MayWait t k → r .answer ≡ park.the-variants.Parked → Parks t k task (r .table) → ParkWays t c task r
-
--- an ephemeral mailbox that gives no Cancelled has holds
-uncancelled : (a : Bool) (n : ℕ) → (a && eqb n 0) ≡ false → a ≡ true → 0 < n
-uncancelled a n h e = let g : eqb n 0 ≡ false = rw e at h in let d = eqb-false n 0 g in omega arith
 
 -- ---- the task in its place
 module _ (t : Table) (k : ℕ) (task : TaskId) (s : Sound t) (l : mailboxLive t k ≡ true) where

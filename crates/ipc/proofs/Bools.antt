@@ -4,8 +4,8 @@ use mathlib.Core.Bool.{Bool, true, false, _&&_, _||_}
 use mathlib.Core.Logic.{_⊎_, inl, inr}
 use Prim.Native.Nat.{ℕ, _≤_, _<_}
 use native.Mathlib.Omega.{arith}
-use borrow.Author.Tests.{ltb-true, ltb-false}
-use lib.Dec.{ltb}
+use borrow.Author.Tests.{ltb-true, ltb-false, eqb-true, eqb-false}
+use lib.Dec.{ltb, eqb}
 use Rattle.laws.specs.Pick.{pick}
 use Rattle.laws.proofs.Every.{and-left, and-right}
 
@@ -22,6 +22,13 @@ below? i n = by (ltb i n) refl
     by : (b : Bool) → ltb i n ≡ b → (i < n) ⊎ (n ≤ i)
     by true h = inl (ltb-true i n h)
     by false h = inr (ltb-false i n h)
+
+pub same? : (j k : ℕ) → (j ≡ k) ⊎ (j ≡ k → ⊥)
+same? j k = by (eqb j k) refl
+  where
+    by : (b : Bool) → eqb j k ≡ b → (j ≡ k) ⊎ (j ≡ k → ⊥)
+    by true e = inl (eqb-true j k e)
+    by false e = inr (eqb-false j k e)
 
 pub and-three : (a b c : Bool) → (a && b && c) ≡ true → (a ≡ true) × (b ≡ true) × (c ≡ true)
 and-three a b c h = let p = and-left (a && b) c h in (and-left a b p, and-right a b p, and-right (a && b) c h)

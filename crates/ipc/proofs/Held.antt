@@ -1,12 +1,9 @@
 -- How many slots of a list hold a mailbox's send end, by what each slot opens; and a count raised that often. Assumes nothing.
 use mathlib.Core.Path.{_≡_, refl, sym, _∙_}
-use mathlib.Core.Bool.{Bool, true, false}
 use mathlib.Core.List.{List, [], _∷_}
-use mathlib.Core.Logic.{_⊎_, inl, inr}
 use Prim.Native.Nat.{ℕ, zero, suc, _+_, _≤_}
 use native.Mathlib.Omega.{arith}
-use borrow.Author.Tests.{eqb-true, eqb-false, eq-eqb, ne-eqb, lt-ltb}
-use lib.Dec.{eqb}
+use borrow.Author.Tests.{eq-eqb, ne-eqb, lt-ltb}
 use Rattle.laws.specs.Pick.{pick}
 use Rattle.cap.specs.declared.slot.Slot.{Slot}
 use Rattle.ipc.specs.Counts.{raised}
@@ -14,14 +11,7 @@ use Rattle.ipc.specs.Opening.{holdOf, opened}
 use Rattle.ipc.specs.Views.{heldBy, heldIn, raisedBy, Steady}
 use Rattle.ipc.specs.declared.state.Table.{Table}
 use Rattle.ipc.specs.declared.opening.Opening.the-variants.{Opens, Shut}
-use Rattle.ipc.proofs.Rights.{hold-steady}
-
-pub same? : (j k : ℕ) → (j ≡ k) ⊎ (j ≡ k → ⊥)
-same? j k = by (eqb j k) refl
-  where
-    by : (b : Bool) → eqb j k ≡ b → (j ≡ k) ⊎ (j ≡ k → ⊥)
-    by true e = inl (eqb-true j k e)
-    by false e = inr (eqb-false j k e)
+use Rattle.ipc.proofs.OtherOpenings.{hold-steady}
 
 module _ (t : Table) (k : ℕ) (x : Slot) where
   pub held-none : holdOf t x ≡ Shut → heldBy t k x ≡ 0

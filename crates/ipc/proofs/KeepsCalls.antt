@@ -69,7 +69,7 @@ some zero h = absurd (h refl)
 some (suc n) h = omega arith
 
 -- an ephemeral mailbox that gives no Cancelled has holds
-uncancelled : (a : Bool) (n : ℕ) → (a && eqb n 0) ≡ false → a ≡ true → 0 < n
+pub uncancelled : (a : Bool) (n : ℕ) → (a && eqb n 0) ≡ false → a ≡ true → 0 < n
 uncancelled true n h e = some n (eqb-false n 0 h)
 uncancelled false n h e = absurd (not-both false e refl)
 

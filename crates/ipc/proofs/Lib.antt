@@ -11,7 +11,7 @@ pub mod Elements
 pub mod Shapes
 pub mod Rings
 pub mod Changes
-pub mod Rights
+pub mod OtherOpenings
 pub mod Tasks
 pub mod Held
 pub mod Reading
@@ -31,6 +31,7 @@ pub mod AfterReleaseFour
 pub mod NewChannel
 pub mod AfterCreate
 pub mod AfterRevoke
+pub mod AfterNew
 pub mod AfterClear
 pub mod AfterCounts
 pub mod Looks
