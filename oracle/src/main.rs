@@ -7,6 +7,7 @@ mod log;
 mod operations;
 mod random;
 mod replay;
+mod rounds;
 mod tables;
 mod tasks;
 mod views;
@@ -25,6 +26,7 @@ const USAGE: &str = "usage: oracle COMMAND
   bind                        reads cases, prints the Rust's answers
   replay                      reads an operation log, prints the Rust's lines
   dump                        as replay, and then every field of every table
+  rounds COUNT                a message in and out, COUNT times, for measuring
   sizes                       the sizes of channel table that a log may ask for";
 
 fn main() -> ExitCode {
@@ -49,6 +51,7 @@ fn run(words: &[&str]) -> Result<Vec<u8>, String> {
             Ok(written(cases::bad_words(number(seed)?, number(count)?)))
         }
         ["bind"] => Ok(bind::answers(&input()?)?.into_bytes()),
+        ["rounds", count] => Ok(format!("{}\n", rounds::rounds(number(count)?)).into_bytes()),
         ["sizes"] => Ok(sizes().into_bytes()),
         ["replay"] => Ok(replayed()?.0.into_bytes()),
         ["dump"] => {

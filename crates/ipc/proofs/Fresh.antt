@@ -6,10 +6,12 @@ use native.Mathlib.Omega.{arith}
 use borrow.Author.Tests.{leb-true, le-leb}
 use lib.Dec.{leb}
 use lib.ListN.{getD, replicate}
+use Rattle.laws.proofs.Cases.{all-pick}
 use Rattle.laws.proofs.Lists.{all-replicate}
 use Rattle.ipc.specs.State.{freshMailbox, freshEndpoint, freshMessage, boxIn, endIn}
-use Rattle.ipc.specs.Make.{freshOf, inRange}
+use Rattle.ipc.specs.Make.{freshOf, inRange, sizesOf, newOf}
 use Rattle.ipc.specs.Sound.{InRange, Sound}
+use Rattle.ipc.specs.declared.answers.New.{New}
 use Rattle.ipc.specs.declared.state.Sizes.{Sizes}
 use Rattle.ipc.specs.declared.state.Endpoint.{Endpoint}
 use Rattle.ipc.specs.declared.state.Mailbox.{Mailbox}
@@ -58,3 +60,10 @@ fresh-sound z r =
       waits-empty = λ k v. absurd (nobody-waits k v);
       waits-held = λ k v. absurd (nobody-waits k v);
     }
+
+-- what is made is sound, within the sizes or not
+pub new-sound : (m e d : ℕ) → Sound (newOf m e d .table)
+unfolding newOf
+new-sound m e d =
+    all-pick (λ (r : New). Sound (r .table)) _ _ _ (λ h. fresh-sound (sizesOf m e d) (in-range-of _ h))
+    (λ _. fresh-sound (sizesOf 0 0 1) (record { mailboxes = omega arith; endpoints = omega arith; deep = omega arith; depth = omega arith }))
