@@ -1,4 +1,4 @@
--- `clear_waiter`: the task waits nowhere, and all else is as it was. Assumes nothing.
+-- `clear_waiter`, `clearOf`: the task waits nowhere, and all else is as it was. Assumes nothing.
 use mathlib.Core.Path.{_≡_, refl, ap, _∙_}
 use mathlib.Core.List.{map}
 use Prim.Native.Nat.{ℕ}

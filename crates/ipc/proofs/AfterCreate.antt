@@ -1,4 +1,4 @@
--- Creation: its ways, and what each changes and leaves. Assumes nothing.
+-- Creation, `createOf`: its ways, and what each changes and leaves. Assumes nothing.
 use mathlib.Core.Path.{_≡_, refl, ap}
 use mathlib.Core.Bool.{Bool, true}
 use mathlib.Core.List.{[]}

@@ -1,4 +1,4 @@
--- Park: its ways, and what each changes and leaves. Assumes nothing.
+-- Park, `parkOf`: its ways, and what each changes and leaves. Assumes nothing.
 use mathlib.Core.Path.{_≡_, refl, ap}
 use mathlib.Core.Bool.{true, false, _&&_, not}
 use mathlib.Core.List.{[]}

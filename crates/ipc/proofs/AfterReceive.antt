@@ -1,4 +1,4 @@
--- Try to receive: its ways, what each changes and leaves, and the message that it gives. Assumes nothing.
+-- Try to receive, `recvOf`: its ways, what each changes and leaves, and the message that it gives. Assumes nothing.
 use mathlib.Core.Path.{_≡_, refl, sym, ap, _∙_}
 use mathlib.Core.Bool.{true}
 use mathlib.Core.List.{[], _∷_}

@@ -1,4 +1,4 @@
--- Register: what a slot and a list of slots change and leave. Assumes nothing.
+-- Register, `registered`, `registeredAll` and `registerOf`: what a slot and a list of slots change and leave. Assumes nothing.
 use mathlib.Core.Path.{_≡_, refl, ap, _∙_}
 use mathlib.Core.Bool.{true, false}
 use mathlib.Core.List.{List, [], _∷_}

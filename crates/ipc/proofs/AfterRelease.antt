@@ -1,4 +1,4 @@
--- Release of one slot: its ways, and what each changes and leaves. Assumes nothing.
+-- Release of one slot, `released`: its ways, and what each changes and leaves. Assumes nothing.
 use mathlib.Core.Path.{_≡_, refl, ap}
 use mathlib.Core.Bool.{true}
 use mathlib.Core.List.{[], _∷_}

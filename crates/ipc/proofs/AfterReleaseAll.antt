@@ -1,8 +1,9 @@
--- Release of a list of slots: each mailbox's holds go down by the slots that held it, and who waits on an ephemeral mailbox that is left
--- without holds is woken; no other wait ends. Assumes nothing.
+-- Release of a list of slots, `releasedAll`: each mailbox's holds go down by the slots that held it, and who waits on an ephemeral
+-- mailbox that is left without holds is woken; no other wait ends. Assumes nothing.
 use mathlib.Core.Path.{_≡_, refl, sym, ap, _∙_}
 use mathlib.Core.Bool.{true}
-use mathlib.Core.List.{List, [], _∷_, _++_, List·Memᴰ, List·Memᴰ·head, List·Memᴰ·not-nil, List·Memᴰ·eq-of-singleton, List·Memᴰ·append-cases, Memᴰ·cast, Memᴰ·append-left, Memᴰ·append-right}
+use mathlib.Core.List.{List, [], _∷_, _++_}
+use mathlib.Core.List.{List·Memᴰ, List·Memᴰ·head, List·Memᴰ·not-nil, List·Memᴰ·eq-of-singleton, List·Memᴰ·append-cases, Memᴰ·cast, Memᴰ·append-left, Memᴰ·append-right}
 use mathlib.Core.Logic.{_⊎_, inl, inr, ⊎-elim}
 use Prim.Native.Nat.{ℕ, _+_, _-_, _<_, _≤_}
 use native.Mathlib.Omega.{arith}
@@ -58,12 +59,16 @@ record Reaped (t : Table) (k : ℕ) (r : Freed) : Type 0 where
   pub gone : waiterOf (r .table) k ≡ nobody
   pub woken : List·Memᴰ (waiterOf t k) (r .woken)
 
+-- the waiter stays, or it is reaped
+abbrev StaysOr : Table → ℕ → Freed → Type 0
+StaysOr t k r = (waiterOf (r .table) k ≡ waiterOf t k) ⊎ Reaped t k r
+
 record OneAt (t : Table) (k n : ℕ) (r : Freed) : Type 0 where
   pub holds : holdsOf (r .table) k ≡ holdsOf t k - n
   pub queue : queueOf (r .table) k ≡ queueOf t k
   pub live : mailboxLive (r .table) k ≡ mailboxLive t k
   pub ephemeral : ephemeralOf (r .table) k ≡ ephemeralOf t k
-  pub waiter : (waiterOf (r .table) k ≡ waiterOf t k) ⊎ Reaped t k r
+  pub waiter : StaysOr t k r
 
 at-other : {t : Table} {k : ℕ} {r : Freed} → Alike t (r .table) k → OneAt t k 0 r
 at-other {t} {k} a =
@@ -109,15 +114,15 @@ module _ (t : Table) (r rest : Freed) where
         woken = λ w e z. by-woken w e z (p .waiter);
       }
     where
-      by-stays : (waiterOf t k .present ≡ true → ephemeralOf t k ≡ true → 0 < holdsOf (rest .table) k) → (waiterOf (r .table) k ≡ waiterOf t k) ⊎ Reaped t k r → waiterOf (rest .table) k ≡ waiterOf t k
+      by-stays : (waiterOf t k .present ≡ true → ephemeralOf t k ≡ true → 0 < holdsOf (rest .table) k) → StaysOr t k r → waiterOf (rest .table) k ≡ waiterOf t k
       by-stays h (inl e) = q .stays (λ w f. h (rw (← e) w) (rw (← p .ephemeral) f)) ∙ e
       by-stays h (inr x) = let l = h (x .waits) (x .ephemeral) in let z = x .none-left in let z′ = q .holds in absurd (omega arith)
 
-      by-gone : waiterOf t k .present ≡ true → ephemeralOf t k ≡ true → holdsOf (rest .table) k ≡ 0 → (waiterOf (r .table) k ≡ waiterOf t k) ⊎ Reaped t k r → waiterOf (rest .table) k ≡ nobody
+      by-gone : waiterOf t k .present ≡ true → ephemeralOf t k ≡ true → holdsOf (rest .table) k ≡ 0 → StaysOr t k r → waiterOf (rest .table) k ≡ nobody
       by-gone w f z (inl e) = q .gone (rw e w) (rw (p .ephemeral) f) z
       by-gone w f z (inr x) = q .stays (λ w′ _. nobody-waits (x .gone) w′) ∙ x .gone
 
-      by-woken : waiterOf t k .present ≡ true → ephemeralOf t k ≡ true → holdsOf (rest .table) k ≡ 0 → (waiterOf (r .table) k ≡ waiterOf t k) ⊎ Reaped t k r → List·Memᴰ (waiterOf t k) (r .woken ++ rest .woken)
+      by-woken : waiterOf t k .present ≡ true → ephemeralOf t k ≡ true → holdsOf (rest .table) k ≡ 0 → StaysOr t k r → List·Memᴰ (waiterOf t k) (r .woken ++ rest .woken)
       by-woken w f z (inl e) = Memᴰ·append-right (r .woken) (Memᴰ·cast (sym e) (q .woken (rw e w) (rw (p .ephemeral) f) z))
       by-woken w f z (inr x) = Memᴰ·append-left (rest .woken) (x .woken)
 
@@ -140,7 +145,7 @@ module _ (t : Table) (r rest : Freed) where
   woken-rest : (w : Waiter) (n : ℕ) (y : Woken (r .table) rest w) → OneAt t (y .box) n r → Woken t (both r rest) w
   woken-rest w n y a = by (a .waiter)
     where
-      by : (waiterOf (r .table) (y .box) ≡ waiterOf t (y .box)) ⊎ Reaped t (y .box) r → Woken t (both r rest) w
+      by : StaysOr t (y .box) r → Woken t (both r rest) w
       by (inl e) =
           record { box = y .box; was = y .was ∙ e; waits = y .waits; ephemeral = sym (a .ephemeral) ∙ y .ephemeral; none-left = y .none-left; gone = y .gone }
       by (inr z) = nobody-waits (y .was ∙ z .gone) (y .waits)

@@ -1,4 +1,4 @@
--- The release call: its four places name exactly those who are woken. Assumes nothing.
+-- The release call, `releaseOf`: its four places name exactly those who are woken. Assumes nothing.
 use mathlib.Core.Path.{_≡_, refl, ap}
 use mathlib.Core.Bool.{true}
 use mathlib.Core.List.{List, [], _∷_, List·Memᴰ, List·Memᴰ·not-nil, List·Memᴰ·cases-cons, List·Memᴰ·append-cases, Memᴰ·append-left}

@@ -1,4 +1,4 @@
--- Revocation: its ways, and what each changes and leaves. Assumes nothing.
+-- Revocation, `revokeOf`: its ways, and what each changes and leaves. Assumes nothing.
 use mathlib.Core.Path.{_≡_, refl, sym, ap, _∙_}
 use mathlib.Core.Bool.{true, false}
 use mathlib.Core.List.{[]}

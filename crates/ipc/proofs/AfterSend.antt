@@ -1,4 +1,4 @@
--- Send: its three ways, and what each changes and leaves. Assumes nothing.
+-- Send, `sendOf`: its three ways, and what each changes and leaves. Assumes nothing.
 use mathlib.Core.Path.{_≡_, refl, sym, ap, _∙_}
 use mathlib.Core.Bool.{true}
 use mathlib.Core.List.{List, [], _∷_, _++_}
