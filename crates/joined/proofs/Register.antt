@@ -1,0 +1,48 @@
+-- What a list that reads registers, and what a list of one word does; and an install's two ways. Assumes nothing.
+use mathlib.Core.Path.{_≡_, refl, _∙_}
+use mathlib.Core.Bool.{true}
+use mathlib.Core.List.{List, [], _∷_}
+use Prim.Native.Nat.{ℕ}
+use Rattle.laws.specs.Pick.{pick}
+use Rattle.laws.specs.Every.{every}
+use Rattle.cap.specs.Word.{readWord, wordsRead, orVacant, slotsOf}
+use Rattle.cap.specs.declared.slot.Slot.{Slot}
+use Rattle.cap.specs.declared.word.WordAnswer.the-variants.{Reads}
+use Rattle.cap.proofs.Words.{reads-test}
+use Rattle.capslots.specs.declared.answers.InstallAnswer.{InstallAnswer}
+use Rattle.capslots.specs.declared.answers.InstallAnswer.the-variants.{Installed, BadSlot}
+use Rattle.ipc.specs.Holds.{registered, registeredAll, registerOf}
+use Rattle.ipc.specs.declared.state.Table.{Table as Channels}
+use Rattle.joined.specs.Steps.{installs}
+
+pub list-registered : (t : Channels) (words : List ℕ) → wordsRead words ≡ true → registerOf t words .table ≡ registeredAll t (slotsOf words)
+unfolding registerOf pick
+list-registered t words h = rw h
+
+module _ (t : Channels) (w : ℕ) (s : Slot) (e : readWord w ≡ Reads s) where
+  reads : wordsRead (w ∷ []) ≡ true
+  unfolding every
+  reads = reads-test w s e
+
+  slots : slotsOf (w ∷ []) ≡ s ∷ []
+  unfolding slotsOf orVacant
+  slots = rw e
+
+  pub word-registered : registerOf t (w ∷ []) .table ≡ registered t s
+  unfolding registeredAll
+  word-registered = list-registered t (w ∷ []) reads ∙ rw slots
+
+-- q is what the code's install answered, and p what the rule's does
+module _ {A : Type 0} {r : A} {q p : InstallAnswer} (e : q ≡ p) where
+  pub refuses : {a : A} (b : A) → q ≡ BadSlot → r ≡ a → r ≡ installs p a b
+  unfolding installs
+  refuses b n h = rw (← e, n) h
+
+  pub succeeds : {b : A} (a : A) → q ≡ Installed → r ≡ b → r ≡ installs p a b
+  unfolding installs
+  succeeds a y h = rw (← e, y) h
+
+pub all-installs : {A : Type 0} (P : A → Type 0) (o : InstallAnswer) (a b : A) → (o ≡ BadSlot → P a) → (o ≡ Installed → P b) → P (installs o a b)
+unfolding installs
+all-installs P BadSlot a b n y = n refl
+all-installs P Installed a b n y = y refl

@@ -1,0 +1,75 @@
+-- Document 01, "Rows and binding", joined steps: spawn, leave and give on a row and the channels together. A refused step changes neither
+-- table.
+use mathlib.Core.List.{List, []}
+use Prim.Native.Nat.{ℕ}
+use lib.Dec.{leb}
+use Rattle.laws.specs.Pick.{pick}
+use Rattle.cap.specs.Slot.{holding}
+use Rattle.cap.specs.Word.{wordsRead, slotsOf}
+use Rattle.cap.specs.declared.CapId.{CapId}
+use Rattle.capslots.specs.Rows.{seedOf, drainOf, installOf}
+use Rattle.capslots.specs.declared.Table.{Table as Rows}
+use Rattle.capslots.specs.declared.answers.InstallAnswer.{InstallAnswer}
+use Rattle.capslots.specs.declared.answers.InstallAnswer.the-variants.{Installed, BadSlot}
+use Rattle.ipc.specs.Holds.{registered, registeredAll, releaseOf, fourOf}
+use Rattle.ipc.specs.declared.state.Table.{Table as Channels}
+use Rattle.joined.specs.declared.answers.Spawning.{Spawning}
+use Rattle.joined.specs.declared.answers.SpawnAnswer as spawn
+use Rattle.joined.specs.declared.answers.Leaving.{Leaving}
+use Rattle.joined.specs.declared.answers.LeaveAnswer as leave
+use Rattle.joined.specs.declared.answers.Giving.{Giving}
+use Rattle.joined.specs.declared.answers.GiveAnswer as give
+
+-- a refused spawn
+abbrev pub spawnRefused : spawn.SpawnAnswer → Channels → Rows → Spawning
+spawnRefused a channels rows = record { answer = a; channels = channels; rows = rows }
+
+-- spawn seeds the row and registers every id in the list given, also those past the fourth
+abbrev pub spawned : Channels → Rows → ℕ → List ℕ → Spawning
+spawned channels rows r words =
+    record { answer = spawn.the-variants.Spawned; channels = registeredAll channels (slotsOf words); rows = seedOf rows r words .table }
+
+-- a list that does not read is refused before all else (21), then a row from 54 up (19)
+unfoldable pub spawnOf : Channels → Rows → ℕ → List ℕ → Spawning
+spawnOf channels rows r words =
+    pick (wordsRead words)
+    (pick (leb 54 r) (spawnRefused spawn.the-variants.BadRow channels rows) (spawned channels rows r words))
+    (spawnRefused spawn.the-variants.BadWord channels rows)
+
+-- a refused leave wakes nobody
+abbrev pub leaveRefused : leave.LeaveAnswer → Channels → Rows → Leaving
+leaveRefused a channels rows = record { answer = a; waiters = fourOf []; channels = channels; rows = rows }
+
+-- leave drains the row and releases its four
+abbrev pub leaves : Channels → Rows → ℕ → Leaving
+leaves channels rows r =
+    record {
+      answer = leave.the-variants.Left;
+      waiters = releaseOf channels (drainOf rows r .slots) .waiters;
+      channels = releaseOf channels (drainOf rows r .slots) .table;
+      rows = drainOf rows r .table;
+    }
+
+-- a row from 54 up is refused (19)
+unfoldable pub leaveOf : Channels → Rows → ℕ → Leaving
+leaveOf channels rows r =
+    pick (leb 54 r) (leaveRefused leave.the-variants.BadRow channels rows) (leaves channels rows r)
+
+-- a refused give
+abbrev pub giveRefused : give.GiveAnswer → Channels → Rows → Giving
+giveRefused a channels rows = record { answer = a; channels = channels; rows = rows }
+
+-- give installs one id and registers it
+abbrev pub given : Channels → Rows → ℕ → ℕ → CapId → Giving
+given channels rows r s c =
+    record { answer = give.the-variants.Given; channels = registered channels (holding c); rows = installOf rows r s c .table }
+
+-- what follows from an install: one thing where it is refused, another where it succeeds
+unfoldable pub installs : {A : Type 0} → InstallAnswer → A → A → A
+installs BadSlot refused done = refused
+installs Installed refused done = done
+
+-- where the install is refused, for a bad row, a bad slot or an occupied one, so is the give (10)
+unfoldable pub giveOf : Channels → Rows → ℕ → ℕ → CapId → Giving
+giveOf channels rows r s c =
+    installs (installOf rows r s c .answer) (giveRefused give.the-variants.BadSlot channels rows) (given channels rows r s c)

@@ -1,0 +1,90 @@
+// What the joined steps answer, with both tables beside it.
+ghost use mathlib.Core.Path.{_≡_};
+ghost use Rattle.joined.specs.Answers.{spawnNumber, leaveNumber, giveNumber};
+use capslots::Table as Rows;
+use ipc::state::Table as Channels;
+use ipc::state::TaskId;
+use ipc::state::Waiter;
+use laws::refusals;
+
+pub enum SpawnAnswer {
+    Spawned,
+    BadWord,
+    BadRow,
+    BadTable,
+}
+
+pub struct Spawning {
+    pub answer: SpawnAnswer,
+    pub channels: Channels,
+    pub rows: Rows,
+}
+
+pub enum LeaveAnswer {
+    Left,
+    BadRow,
+    BadTable,
+}
+
+// The waiters that the leave took out stand first, in the row's order.
+pub struct Leaving {
+    pub answer: LeaveAnswer,
+    pub waiters: [Waiter; 4],
+    pub channels: Channels,
+    pub rows: Rows,
+}
+
+// As for an install, a bad row, a bad slot and an occupied one are one refusal.
+pub enum GiveAnswer {
+    Given,
+    BadSlot,
+    BadTable,
+}
+
+pub struct Giving {
+    pub answer: GiveAnswer,
+    pub channels: Channels,
+    pub rows: Rows,
+}
+
+pub const NOBODY: Waiter = Waiter {
+    present: false,
+    task: TaskId { slot: 0, epoch: 0 },
+};
+
+impl SpawnAnswer {
+    pub fn number(self) -> u8
+        ensures { λ r. ⌜ r ≡ spawnNumber self ⌝ }
+    {
+        match self {
+            SpawnAnswer::Spawned => refusals::ACCEPTED,
+            SpawnAnswer::BadWord => refusals::BAD_WORD,
+            SpawnAnswer::BadRow => refusals::BAD_ROW,
+            SpawnAnswer::BadTable => refusals::BAD_TABLE,
+        }
+    }
+}
+
+impl LeaveAnswer {
+    pub fn number(self) -> u8
+        ensures { λ r. ⌜ r ≡ leaveNumber self ⌝ }
+    {
+        match self {
+            LeaveAnswer::Left => refusals::ACCEPTED,
+            LeaveAnswer::BadRow => refusals::BAD_ROW,
+            LeaveAnswer::BadTable => refusals::BAD_TABLE,
+        }
+    }
+}
+
+impl GiveAnswer {
+    pub fn number(self) -> u8
+        ensures { λ r. ⌜ r ≡ giveNumber self ⌝ }
+    {
+        match self {
+            GiveAnswer::Given => refusals::ACCEPTED,
+            GiveAnswer::BadSlot => refusals::BAD_SLOT,
+            GiveAnswer::BadTable => refusals::BAD_TABLE,
+        }
+    }
+}

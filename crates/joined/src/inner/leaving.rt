@@ -1,0 +1,37 @@
+// Leave: a task's row on its exit.
+ghost use mathlib.Core.Path.{_≡_};
+ghost use Rattle.ipc.specs.Sound.{Sound};
+ghost use Rattle.joined.specs.Steps.{leaveOf};
+use crate::answers::LeaveAnswer;
+use crate::answers::Leaving;
+use crate::answers::NOBODY;
+use capslots::ROWS;
+use capslots::Table as Rows;
+use ipc::state::Table as Channels;
+
+// Drains the row and releases its four, with the waiters that this takes out.
+pub fn leave(channels: Channels, rows: Rows, row: usize) -> Leaving
+    requires { ⌜ Sound channels ⌝ }
+    ensures { λ r. ⌜ r ≡ leaveOf channels rows row ⌝ }
+{
+    if row >= ROWS {
+        return Leaving {
+            answer: LeaveAnswer::BadRow,
+            waiters: [NOBODY; 4],
+            channels,
+            rows,
+        };
+    }
+    let drained = capslots::drain(rows, row);
+    let slots = drained.slots;
+    let rows = drained.table;
+    let released = ipc::inner::release_holds(channels, slots);
+    let waiters = released.waiters;
+    let channels = released.table;
+    Leaving {
+        answer: LeaveAnswer::Left,
+        waiters,
+        channels,
+        rows,
+    }
+}

@@ -1,0 +1,63 @@
+// The joined steps: a row and the channels that its ids open, changed together.
+//
+// These are the steps that anyone may take, on any tables and any operands: each tests the lent channel table first and refuses one that
+// is not sound with 27. Crates that have shown their table to be sound call `inner` and do not pay for the test again.
+ghost use mathlib.Core.Path.{_≡_};
+ghost use Rattle.joined.specs.Border.{spawnCall, leaveCall, giveCall};
+use cap::CapId;
+use capslots::Table as Rows;
+use ipc::sound;
+use ipc::state::Table as Channels;
+
+pub mod answers;
+pub mod inner;
+
+pub use answers::GiveAnswer;
+pub use answers::Giving;
+pub use answers::LeaveAnswer;
+pub use answers::Leaving;
+pub use answers::SpawnAnswer;
+pub use answers::Spawning;
+
+// A task's first row, and a hold for each id of the list.
+pub fn spawn(channels: Channels, rows: Rows, row: usize, list: &[u64]) -> Spawning
+    ensures { λ r. ⌜ r ≡ spawnCall channels rows row (now (list .entry)) ⌝ }
+{
+    if !sound::sound(channels) {
+        return Spawning {
+            answer: SpawnAnswer::BadTable,
+            channels,
+            rows,
+        };
+    }
+    inner::spawn(channels, rows, row, list)
+}
+
+// A task's row taken on its exit, its holds released, and the waiters to cancel.
+pub fn leave(channels: Channels, rows: Rows, row: usize) -> Leaving
+    ensures { λ r. ⌜ r ≡ leaveCall channels rows row ⌝ }
+{
+    if !sound::sound(channels) {
+        return Leaving {
+            answer: LeaveAnswer::BadTable,
+            waiters: [answers::NOBODY; 4],
+            channels,
+            rows,
+        };
+    }
+    inner::leave(channels, rows, row)
+}
+
+// One id more in a row, and its hold.
+pub fn give(channels: Channels, rows: Rows, row: usize, slot: usize, id: CapId) -> Giving
+    ensures { λ r. ⌜ r ≡ giveCall channels rows row slot id ⌝ }
+{
+    if !sound::sound(channels) {
+        return Giving {
+            answer: GiveAnswer::BadTable,
+            channels,
+            rows,
+        };
+    }
+    inner::give(channels, rows, row, slot, id)
+}
