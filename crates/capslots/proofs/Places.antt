@@ -1,26 +1,16 @@
 -- What each slot of each row holds after one is changed, and that a table keeps its shape. Assumes nothing.
 use mathlib.Core.Path.{_≡_, refl, _∙_}
-use mathlib.Core.Bool.{Bool, true, false}
 use mathlib.Core.List.{[]}
 use Prim.Native.Nat.{ℕ, _<_}
 use native.Mathlib.Omega.{arith}
-use borrow.Author.Tests.{eqb-true, eqb-false}
-use lib.Dec.{eqb}
 use lib.ListN.{length, length-set, length-replicate, getD-replicate}
 use lib.Seq.{getD-set-same, getD-set-other}
+use Rattle.laws.proofs.Bools.{by-equal}
 use Rattle.cap.specs.Slot.{vacant}
 use Rattle.cap.specs.declared.slot.Slot.{Slot}
 use Rattle.capslots.specs.Table.{emptyRow, freshTable, rowAt, slotIn, withRow, withSlot, Shape}
 use Rattle.capslots.specs.declared.Row.{Row}
 use Rattle.capslots.specs.declared.Table.{Table}
-
--- by whether two numbers are equal
-pub by-equal : {A : Type 0} (a b : ℕ) → (a ≡ b → A) → ((a ≡ b → ⊥) → A) → A
-by-equal {A} a b y n = by (eqb a b) refl
-  where
-    by : (v : Bool) → eqb a b ≡ v → A
-    by true e = y (eqb-true a b e)
-    by false e = n (eqb-false a b e)
 
 module _ (t : Table) (r : ℕ) (row : Row) where
   pub other-row : (q : ℕ) → (q ≡ r → ⊥) → rowAt (withRow t r row) q ≡ rowAt t q

@@ -21,7 +21,7 @@ use Rattle.ipc.specs.declared.answers.RegisterAnswer.the-variants.{Regis
 use Rattle.ipc.specs.declared.opening.Opening.the-variants.{Opens, Shut}
 use Rattle.ipc.proofs.Openings.{all-opened, opens-live, hold-opens, box-same}
 use Rattle.ipc.proofs.KeepsCalls.{registered-kept}
-use Rattle.ipc.proofs.Bools.{same?}
+use Rattle.laws.proofs.Bools.{same?}
 use Rattle.ipc.proofs.Held.{held-none, held-one, held-other, held-steady, raised-then}
 use Rattle.ipc.proofs.Changes.{alike-same, steady-same, steady-then, mailbox-anew}
 

@@ -17,7 +17,7 @@ use Rattle.ipc.specs.declared.state.Mailbox.{Mailbox}
 use Rattle.ipc.specs.declared.state.Waiter.{Waiter}
 use Rattle.ipc.specs.declared.state.Table.{Table}
 use Rattle.ipc.specs.declared.opening.Opening.the-variants.{Opens, Shut}
-use Rattle.ipc.proofs.Bools.{and-three}
+use Rattle.laws.proofs.Bools.{and-three}
 use Rattle.ipc.proofs.Openings.{all-opened, opens-live, hold-opens, box-same}
 use Rattle.ipc.proofs.Changes.{alike-same, steady-same, mailbox-anew}
 

@@ -19,7 +19,7 @@ use Rattle.ipc.specs.declared.state.Waiter.{Waiter}
 use Rattle.ipc.specs.declared.state.Table.{Table}
 use Rattle.ipc.specs.declared.opening.Opening.the-variants.{Opens}
 use Rattle.ipc.proofs.KeepsCalls.{released-kept}
-use Rattle.ipc.proofs.Bools.{same?}
+use Rattle.laws.proofs.Bools.{same?}
 use Rattle.ipc.proofs.Held.{held-none, held-one, held-other, held-steady}
 use Rattle.ipc.proofs.Changes.{alike-same, steady-same, steady-then}
 use Rattle.ipc.proofs.AfterRelease.{ReleaseWays, skipped, kept, woke, release-ways, release-steady, release-counts}

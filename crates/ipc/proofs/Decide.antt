@@ -5,6 +5,7 @@ use mathlib.Core.Logic.{⊎-elim}
 use native.Mathlib.Omega.{arith}
 use borrow.Author.Tests.{eqb-false, ne-eqb, not-true}
 use lib.Dec.{eqb}
+use Rattle.laws.proofs.Cases.{not-both}
 use Rattle.laws.specs.Every.{every}
 use Rattle.laws.proofs.Every.{and-left, and-right}
 use Rattle.ipc.specs.State.{Shape}
@@ -13,7 +14,7 @@ use Rattle.ipc.specs.Sound.{Sound}
 use Rattle.ipc.specs.SoundTest.{placeOk, soundTest}
 use Rattle.ipc.specs.declared.state.Mailbox.{Mailbox}
 use Rattle.ipc.specs.declared.state.Table.{Table}
-use Rattle.ipc.proofs.Bools.{true-false, and-four}
+use Rattle.laws.proofs.Bools.{and-four}
 use Rattle.ipc.proofs.Fresh.{in-range-of, of-in-range}
 use Rattle.ipc.proofs.DecidePlaces.{fresh-place, places-pass}
 use Rattle.ipc.proofs.DecideEndpoints as endpoints
@@ -50,13 +51,13 @@ sound-of t shape h =
       endpoints-past = λ i. known i .past;
       places-past = λ k q l g. fresh-place t shape (p .places) k q l (λ _ b. omega arith);
       next = eqb-false (t .«next_gen») 0 (not-true (eqb (t .«next_gen») 0) (p .next));
-      dead = λ k d. ⊎-elim (λ e. e) (λ v. absurd (true-false (v .live) d)) (kind k);
-      dead-places = λ k q l d. fresh-place t shape (p .places) k q l (λ v _. true-false v d);
-      ends = λ k v. ⊎-elim (λ e. absurd (true-false v (ap (λ (b : Mailbox). b .live) e))) (λ x. x .ends) (kind k);
-      ring = λ k v. ⊎-elim (λ e. absurd (true-false v (ap (λ (b : Mailbox). b .live) e))) (λ x. x .ring) (kind k);
+      dead = λ k d. ⊎-elim (λ e. e) (λ v. absurd (not-both _ (v .live) d)) (kind k);
+      dead-places = λ k q l d. fresh-place t shape (p .places) k q l (λ v _. not-both _ v d);
+      ends = λ k v. ⊎-elim (λ e. absurd (not-both _ v (ap (λ (b : Mailbox). b .live) e))) (λ x. x .ends) (kind k);
+      ring = λ k v. ⊎-elim (λ e. absurd (not-both _ v (ap (λ (b : Mailbox). b .live) e))) (λ x. x .ring) (kind k);
       names = λ i. known i .names;
-      waits-empty = λ k w. ⊎-elim (λ e. absurd (true-false w (ap (λ (b : Mailbox). b .waiter .present) e))) (λ x. x .waits .empty w) (kind k);
-      waits-held = λ k w. ⊎-elim (λ e. absurd (true-false w (ap (λ (b : Mailbox). b .waiter .present) e))) (λ x. x .waits .held w) (kind k);
+      waits-empty = λ k w. ⊎-elim (λ e. absurd (not-both _ w (ap (λ (b : Mailbox). b .waiter .present) e))) (λ x. x .waits .empty w) (kind k);
+      waits-held = λ k w. ⊎-elim (λ e. absurd (not-both _ w (ap (λ (b : Mailbox). b .waiter .present) e))) (λ x. x .waits .held w) (kind k);
     }
 
 -- a sound table passes the test

@@ -7,6 +7,7 @@ use Prim.Native.Nat.{ℕ, _≤_, _<_}
 use native.Mathlib.Omega.{arith}
 use borrow.Author.Tests.{eqb-true, eq-eqb, ltb-true, lt-ltb}
 use lib.Dec.{eqb, ltb}
+use Rattle.laws.proofs.Cases.{not-both}
 use Rattle.laws.specs.Pick.{pick}
 use Rattle.laws.specs.Every.{every}
 use Rattle.laws.proofs.Every.{every-at, at-every, and-left, and-right}
@@ -17,7 +18,7 @@ use Rattle.ipc.specs.Sound.{OneEnd, Ends, Names, Sound}
 use Rattle.ipc.specs.SoundTest.{isFreshEndpoint, lastEnd, sendEnd, recvEnd, endpointTest, endpointOk}
 use Rattle.ipc.specs.declared.state.Endpoint.{Endpoint}
 use Rattle.ipc.specs.declared.state.Table.{Table}
-use Rattle.ipc.proofs.Bools.{true-false, either, below?, and-three, or-cases, picked, not-picked}
+use Rattle.laws.proofs.Bools.{either, below?, and-three, or-cases, picked, not-picked}
 use Rattle.ipc.proofs.Elements.{fresh-endpoint}
 use Rattle.ipc.proofs.Last.{last-of}
 use Rattle.ipc.proofs.Shapes.{past, end-below}
@@ -90,7 +91,7 @@ known-of t shape h i =
     ⊎-elim (λ l. known-below t i (every-at (passing t) 64 h i l))
     (λ g.
     let f = past (t .endpoints) freshEndpoint 64 i (shape .endpoints) g in
-    let none : (endpointLive t i ≡ true → ⊥) = λ v. true-false v (ap (λ (x : Endpoint). x .live) f) in
+    let none : (endpointLive t i ≡ true → ⊥) = λ v. not-both _ v (ap (λ (x : Endpoint). x .live) f) in
     record { past = λ _. f; names = λ v. absurd (none v); last = λ v. absurd (none v) })
     (below? i 64)
 
@@ -113,7 +114,7 @@ end-found t shape w k i o =
 module _ (t : Table) (σ : Sound t) (i : ℕ) where
   in-size : endpointLive t i ≡ true → i < t .sizes .endpoints
   in-size v =
-      ⊎-elim (λ l. l) (λ g. absurd (true-false v (ap (λ (x : Endpoint). x .live) (σ .endpoints-past i g)))) (below? i (t .sizes .endpoints))
+      ⊎-elim (λ l. l) (λ g. absurd (not-both _ v (ap (λ (x : Endpoint). x .live) (σ .endpoints-past i g)))) (below? i (t .sizes .endpoints))
 
   is-last : (w : CapRights) (j : ℕ) → OneEnd (t .endpoints) w (endpointAt t i .mailbox) j → endpointLive t i ≡ true → endpointAt t i .rights ≡ w →
       lastEnd (t .endpoints) w (endpointAt t i .mailbox) 64 ≡ i

@@ -6,6 +6,7 @@ use mathlib.Core.Logic.{_⊎_, inl, inr, ⊎-elim}
 use Prim.Native.Nat.{ℕ, _<_}
 use borrow.Author.Tests.{eqb-true, eqb-false, eq-eqb, ne-eqb, ltb-true, lt-ltb, not-true}
 use lib.Dec.{eqb, ltb}
+use Rattle.laws.proofs.Cases.{not-both}
 use Rattle.laws.specs.Pick.{pick}
 use Rattle.laws.specs.Every.{every}
 use Rattle.laws.proofs.Every.{every-at, at-every}
@@ -15,7 +16,7 @@ use Rattle.ipc.specs.Sound.{Ends, Ring, Sound}
 use Rattle.ipc.specs.SoundTest.{isFreshMailbox, sendEnd, recvEnd, ringTest, waiterTest, endsOk, mailboxTest, mailboxOk}
 use Rattle.ipc.specs.declared.state.Mailbox.{Mailbox}
 use Rattle.ipc.specs.declared.state.Table.{Table}
-use Rattle.ipc.proofs.Bools.{true-false, either, below?, and-four, picked, not-picked}
+use Rattle.laws.proofs.Bools.{either, below?, and-four, picked, not-picked}
 use Rattle.ipc.proofs.Elements.{fresh-mailbox, ring-of, of-ring, Waits, waits-of, of-waits}
 use Rattle.ipc.proofs.DecideEndpoints.{Known, one-end, end-found}
 use Rattle.ipc.proofs.Shapes.{past, end-below}
@@ -78,7 +79,7 @@ kind-of t shape known h k =
 module _ (t : Table) (σ : Sound t) (k : ℕ) where
   in-size : mailboxLive t k ≡ true → k < t .sizes .mailboxes
   in-size v =
-      ⊎-elim (λ l. l) (λ g. absurd (true-false v (ap (λ (b : Mailbox). b .live) (σ .mailboxes-past k g)))) (below? k (t .sizes .mailboxes))
+      ⊎-elim (λ l. l) (λ g. absurd (not-both _ v (ap (λ (b : Mailbox). b .live) (σ .mailboxes-past k g)))) (below? k (t .sizes .mailboxes))
 
   of-ends : Ends (t .endpoints) k → endsOk (t .endpoints) (sendEnd (t .endpoints) k) (recvEnd (t .endpoints) k) ≡ true
   of-ends e =

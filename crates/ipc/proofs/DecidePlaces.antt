@@ -14,7 +14,7 @@ use Rattle.ipc.specs.Sound.{Sound}
 use Rattle.ipc.specs.SoundTest.{isFreshMessage, placeOk}
 use Rattle.ipc.specs.declared.state.Message.{Message}
 use Rattle.ipc.specs.declared.state.Table.{Table}
-use Rattle.ipc.proofs.Bools.{either, below?, or-cases}
+use Rattle.laws.proofs.Bools.{either, below?, or-cases}
 use Rattle.ipc.proofs.Elements.{fresh-message}
 use Rattle.ipc.proofs.Shapes.{past}
 

@@ -5,6 +5,7 @@ use mathlib.Core.Logic.{_⊎_, ⊎-elim}
 use Prim.Native.Nat.{ℕ, _<_, _+_, _%_}
 use borrow.Author.Tests.{eqb-true, eq-eqb, ltb-true, leb-true, le-leb, lt-ltb, not-true}
 use lib.Dec.{eqb, ltb, leb}
+use Rattle.laws.proofs.Cases.{not-both}
 use Rattle.laws.proofs.Every.{and-left, and-right}
 use Rattle.ipc.specs.State.{freshMessage, freshEndpoint, freshMailbox, nobody}
 use Rattle.ipc.specs.Sound.{Ring}
@@ -13,7 +14,7 @@ use Rattle.ipc.specs.declared.state.Message.{Message}
 use Rattle.ipc.specs.declared.state.Endpoint.{Endpoint}
 use Rattle.ipc.specs.declared.state.Mailbox.{Mailbox}
 use Rattle.ipc.specs.declared.state.Waiter.{Waiter}
-use Rattle.ipc.proofs.Bools.{true-false, and-three, and-four, or-cases}
+use Rattle.laws.proofs.Bools.{and-three, and-four, or-cases}
 
 -- ---- as when fresh
 pub fresh-message : (m : Message) → isFreshMessage m ≡ true → m ≡ freshMessage
@@ -81,7 +82,7 @@ waits-of b h =
     held = not (b .«auto_reap») || ltb 0 (b .«send_holders»)
 
     past : (x y : Bool) → x ≡ true → (not x || y) ≡ true → y ≡ true
-    past x y e g = ⊎-elim (λ n. absurd (true-false e (not-true x n))) (λ q. q) (or-cases (not x) y g)
+    past x y e g = ⊎-elim (λ n. absurd (not-both _ e (not-true x n))) (λ q. q) (or-cases (not x) y g)
 
     waiting : b .waiter .present ≡ true → (eqb (b .len) 0 && held) ≡ true
     waiting p = past (b .waiter .present) (eqb (b .len) 0 && held) p h

@@ -6,7 +6,7 @@ use native.Mathlib.Omega.{arith}
 use borrow.Author.Tests.{leb-true, le-leb}
 use lib.Dec.{leb}
 use lib.ListN.{getD, replicate}
-use Rattle.laws.proofs.Cases.{all-pick}
+use Rattle.laws.proofs.Cases.{all-pick, not-both}
 use Rattle.laws.proofs.Lists.{all-replicate}
 use Rattle.ipc.specs.State.{freshMailbox, freshEndpoint, freshMessage, boxIn, endIn}
 use Rattle.ipc.specs.Make.{freshOf, inRange, sizesOf, newOf}
@@ -15,7 +15,7 @@ use Rattle.ipc.specs.declared.answers.New.{New}
 use Rattle.ipc.specs.declared.state.Sizes.{Sizes}
 use Rattle.ipc.specs.declared.state.Endpoint.{Endpoint}
 use Rattle.ipc.specs.declared.state.Mailbox.{Mailbox}
-use Rattle.ipc.proofs.Bools.{true-false, and-four}
+use Rattle.laws.proofs.Bools.{and-four}
 
 pub in-range-of : (z : Sizes) → inRange z ≡ true → InRange z
 in-range-of z h =
@@ -35,13 +35,13 @@ places-fresh : (i : ℕ) → getD (replicate 256 freshMessage) i freshMessage �
 places-fresh = all-replicate (λ m. m ≡ freshMessage) 256 freshMessage refl
 
 dead-box : (k : ℕ) → boxIn (replicate 32 freshMailbox) k .live ≡ true → ⊥
-dead-box k v = true-false v (ap (λ (b : Mailbox). b .live) (boxes-fresh k))
+dead-box k v = not-both _ v (ap (λ (b : Mailbox). b .live) (boxes-fresh k))
 
 dead-end : (i : ℕ) → endIn (replicate 64 freshEndpoint) i .live ≡ true → ⊥
-dead-end i v = true-false v (ap (λ (e : Endpoint). e .live) (ends-fresh i))
+dead-end i v = not-both _ v (ap (λ (e : Endpoint). e .live) (ends-fresh i))
 
 nobody-waits : (k : ℕ) → boxIn (replicate 32 freshMailbox) k .waiter .present ≡ true → ⊥
-nobody-waits k v = true-false v (ap (λ (b : Mailbox). b .waiter .present) (boxes-fresh k))
+nobody-waits k v = not-both _ v (ap (λ (b : Mailbox). b .waiter .present) (boxes-fresh k))
 
 pub fresh-sound : (z : Sizes) → InRange z → Sound (freshOf z)
 fresh-sound z r =

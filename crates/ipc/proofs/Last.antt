@@ -12,10 +12,10 @@ use lib.Dec.{eqb, ltb}
 use lib.ListN.{getD, set, length, replicate, getD-replicate}
 use lib.Seq.{getD-set-same, getD-set-other}
 use Rattle.laws.specs.Pick.{pick}
-use Rattle.laws.proofs.Cases.{all-pick}
+use Rattle.laws.proofs.Cases.{all-pick, not-both}
 use Rattle.laws.proofs.Every.{and-left, and-right, and-both}
 use Rattle.cap.specs.declared.CapRights.{CapRights}
-use Rattle.ipc.proofs.Bools.{true-false, and-three}
+use Rattle.laws.proofs.Bools.{and-three}
 use Rattle.ipc.specs.State.{endIn}
 use Rattle.ipc.specs.Sound.{IsEnd}
 use Rattle.ipc.specs.SoundTest.{isEnd, lastEnd, Remembers}
@@ -36,7 +36,7 @@ module _ (at : List ℕ) (e : Endpoint) (w : CapRights) (i : ℕ) where
       rw q (getD-set-same at k i 0 (omega arith)))
       (λ n.
       getD-set-other at (e .mailbox) k i 0 (λ q.
-      true-false (and-both (e .live && eqb (e .rights .bits) (w .bits)) (eqb (e .mailbox) k)
+      not-both _ (and-both (e .live && eqb (e .rights .bits) (w .bits)) (eqb (e .mailbox) k)
       (and-left (e .live && eqb (e .rights .bits) (w .bits)) (ltb (e .mailbox) 32) h) (eq-eqb (e .mailbox) k (sym q))) n))
 
   pub noted-none : (e .live && eqb (e .rights .bits) (w .bits) && ltb (e .mailbox) 32) ≡ false → (k : ℕ) → k < 32 →
@@ -45,7 +45,7 @@ module _ (at : List ℕ) (e : Endpoint) (w : CapRights) (i : ℕ) where
       all-pick (λ x. getD at k 0 ≡ x) (isEnd e w k) i (getD at k 0)
       (λ y.
       let q : e .mailbox ≡ k = eqb-true (e .mailbox) k (and-right (e .live && eqb (e .rights .bits) (w .bits)) (eqb (e .mailbox) k) y) in
-      absurd (true-false (and-both (e .live && eqb (e .rights .bits) (w .bits)) (ltb (e .mailbox) 32)
+      absurd (not-both _ (and-both (e .live && eqb (e .rights .bits) (w .bits)) (ltb (e .mailbox) 32)
       (and-left (e .live && eqb (e .rights .bits) (w .bits)) (eqb (e .mailbox) k) y) (lt-ltb (e .mailbox) 32 (omega arith))) h))
       (λ n. refl)
 
@@ -88,6 +88,6 @@ last-of es w k (suc n) l =
     record {
       end = before .end;
       any = λ i h e.
-          ⊎-elim (λ q. absurd (true-false (end-is es w k n (rw q at e)) no)) (λ lt. before .any i lt e)
+          ⊎-elim (λ q. absurd (not-both _ (end-is es w k n (rw q at e)) no)) (λ lt. before .any i lt e)
           (eq-or-lt-of-le (le-of-suc-le-suc h));
     })

@@ -6,7 +6,6 @@ pub mod KeepsEnds
 pub mod KeepsCreate
 pub mod KeepsRevoke
 pub mod KeepsClear
-pub mod Bools
 pub mod Elements
 pub mod Shapes
 pub mod Rings

@@ -25,7 +25,7 @@ use Rattle.ipc.specs.declared.state.Table.{Table}
 use Rattle.ipc.specs.declared.opening.Opening.{Opening}
 use Rattle.ipc.specs.declared.opening.Opening.the-variants.{Opens, Shut}
 use Rattle.ipc.proofs.KeepsCreate.{Free, created-send, created-recv}
-use Rattle.ipc.proofs.Bools.{same?}
+use Rattle.laws.proofs.Bools.{same?}
 
 -- c is one of the two new ids, and asked for its one right
 pub record NewId (t : Table) (s r : ℕ) (c : CapId) (need : CapRights) : Type 0 where

@@ -8,7 +8,7 @@ use native.Mathlib.Nat.{mod-lt, mod-add-mod, mod-eq-of-lt, mod-eq-sub-mod}
 use lib.ListN.{length}
 use Rattle.ipc.specs.Views.{ringFrom}
 use Rattle.ipc.specs.declared.state.Message.{Message}
-use Rattle.ipc.proofs.Bools.{below?}
+use Rattle.laws.proofs.Bools.{below?}
 
 -- two places less than d apart are two places of the ring
 pub apart : (d a i n : ℕ) → a < d → i < n → n < d → (a + i) % d ≡ (a + n) % d → ⊥

@@ -1,20 +1,17 @@
 -- What the type [T; n] says of a table that a function was given: the lengths of its lists. Assumes nothing.
-use mathlib.Core.Path.{_≡_, sym, _∙_, ap}
-use mathlib.Core.List.{List, map}
+use mathlib.Core.Path.{_≡_, ap}
+use mathlib.Core.List.{List}
 use mathlib.Core.Bool.{true}
 use mathlib.Core.Logic.{⊎-elim}
 use Prim.Native.Nat.{ℕ, _≤_, _<_}
 use native.Mathlib.Omega.{arith}
-use lib.ListN.{length, getD, length-map, List·getD-eq-default}
+use lib.ListN.{length, getD, List·getD-eq-default}
+use Rattle.laws.proofs.Cases.{not-both}
 use Rattle.ipc.specs.State.{Shape, freshEndpoint, freshMailbox, endpointLive, mailboxLive}
 use Rattle.ipc.specs.declared.state.Endpoint.{Endpoint}
 use Rattle.ipc.specs.declared.state.Mailbox.{Mailbox}
 use Rattle.ipc.specs.declared.state.Table.{Table}
-use Rattle.ipc.proofs.Bools.{true-false, below?}
-
--- a list of structs stands among the known facts as mapped: `search (needs, unmapped)` proves the length of a parameter's list
-pub unmapped : (X Y : Type 0) (f : X → Y) (l : List X) (n : ℕ) → length (map f l) ≡ n → length l ≡ n
-unmapped X Y f l n p = sym (length-map l f) ∙ p
+use Rattle.laws.proofs.Bools.{below?}
 
 -- past a list's end stands what is read by default, so what a table has of a kind is below its length
 pub past : {A : Type 0} (l : List A) (d : A) (n i : ℕ) → length l ≡ n → n ≤ i → getD l i d ≡ d
@@ -23,10 +20,10 @@ past l d n i e h = List·getD-eq-default l d (omega arith)
 module _ (t : Table) (shape : Shape t) where
   pub end-below : (i : ℕ) → endpointLive t i ≡ true → i < 64
   end-below i v =
-      ⊎-elim (λ l. l) (λ g. absurd (true-false v (ap (λ (e : Endpoint). e .live) (past (t .endpoints) freshEndpoint 64 i (shape .endpoints) g))))
+      ⊎-elim (λ l. l) (λ g. absurd (not-both _ v (ap (λ (e : Endpoint). e .live) (past (t .endpoints) freshEndpoint 64 i (shape .endpoints) g))))
       (below? i 64)
 
   pub box-below : (k : ℕ) → mailboxLive t k ≡ true → k < 32
   box-below k v =
-      ⊎-elim (λ l. l) (λ g. absurd (true-false v (ap (λ (b : Mailbox). b .live) (past (t .mailboxes) freshMailbox 32 k (shape .mailboxes) g))))
+      ⊎-elim (λ l. l) (λ g. absurd (not-both _ v (ap (λ (b : Mailbox). b .live) (past (t .mailboxes) freshMailbox 32 k (shape .mailboxes) g))))
       (below? k 32)

@@ -1,6 +1,7 @@
 pub mod Cases
 pub mod Search
 pub mod Every
+pub mod Bools
 pub mod Lists
 pub mod Through
 pub mod Sweep

@@ -50,3 +50,17 @@ pub lowest-at : (used : ℕ → Bool) (i end k : ℕ) → lowestFree used i end 
 unfolding lowestFree
 lowest-at used i end k e =
     let r = scan used i (end - i) k e in record { from = r .from; below = omega arith; free = r .free; lower = r .lower }
+
+-- a search that finds nothing passed every place, and all are used
+all-used : (used : ℕ → Bool) (i n : ℕ) → lowest used i n ≡ Nowhere → (j : ℕ) → i ≤ j → j < i + n → used j ≡ true
+unfolding lowest
+all-used used i zero e = λ j a b. absurd (omega arith)
+all-used used i (suc n) e =
+    all-pick (λ p. p ≡ Nowhere → (j : ℕ) → i ≤ j → j < i + suc n → used j ≡ true) (used i) _ _
+    (λ u h j a b. ⊎-elim (λ q. rw (← q) u) (λ l. all-used used (suc i) n h j l (omega arith)) (eq-or-lt-of-le a))
+    (λ _ h j a b. let z : _≡_ {A = ℕ} 0 1 = cc in absurd (omega arith))
+    e
+
+pub none-free : (used : ℕ → Bool) (i end : ℕ) → lowestFree used i end ≡ Nowhere → (j : ℕ) → i ≤ j → j < end → used j ≡ true
+unfolding lowestFree
+none-free used i end e j a b = all-used used i (end - i) e j a (omega arith)

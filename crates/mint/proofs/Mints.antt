@@ -3,17 +3,15 @@
 use mathlib.Core.Path.{_≡_, refl, sym, ap, _∙_}
 use mathlib.Core.Bool.{Bool, true, false}
 use mathlib.Core.List.{List}
-use mathlib.Core.Logic.{⊎-elim}
-use Prim.Native.Nat.{ℕ, zero, suc, _+_, _-_, _≤_, _<_}
-use native.Mathlib.Nat.{eq-or-lt-of-le}
+use Prim.Native.Nat.{ℕ, _+_, _-_, _≤_, _<_}
 use native.Mathlib.Omega.{arith}
 use lib.ListN.{length, set}
 use lib.Seq.{getD-set-same, getD-set-other}
 use Rattle.laws.specs.Place.{lowest, lowestFree}
 use Rattle.laws.specs.declared.Place.{Place}
-use Rattle.laws.specs.declared.Place.the-variants.{At, Nowhere}
-use Rattle.laws.proofs.Cases.{all-pick, all-found}
-use Rattle.laws.proofs.Search.{Lowest, lowest-at}
+use Rattle.laws.specs.declared.Place.the-variants.{At}
+use Rattle.laws.proofs.Cases.{all-found}
+use Rattle.laws.proofs.Search.{Lowest, lowest-at, none-free}
 use Rattle.cap.specs.Id.{idOf, generationOf}
 use Rattle.cap.specs.declared.CapId.{CapId}
 use Rattle.cap.proofs.Ids.{generation-of-id}
@@ -44,15 +42,6 @@ abbrev pub Tells : ℕ → ℕ → List Entry → ℕ → MintAnswer → List En
 Tells n base es number (Minted c) after = Accepted n base es number c after
 Tells n base es number NoFreeEntry after = Refused n es after
 
-none-free : (used : ℕ → Bool) (i n : ℕ) → lowest used i n ≡ Nowhere → (j : ℕ) → i ≤ j → j < i + n → used j ≡ true
-unfolding lowest
-none-free used i zero e = λ j a b. absurd (omega arith)
-none-free used i (suc n) e =
-    all-pick (λ p. p ≡ Nowhere → (j : ℕ) → i ≤ j → j < i + suc n → used j ≡ true) (used i) _ _
-    (λ u h j a b. ⊎-elim (λ q. rw (← q) u) (λ l. none-free used (suc i) n h j l (omega arith)) (eq-or-lt-of-le a))
-    (λ _ h j a b. let z : _≡_ {A = ℕ} 0 1 = cc in absurd (omega arith))
-    e
-
 -- what `Tells` says holds of a mint, however its answer and its entries are joined
 pub mint-tells :
     {A : Type 0} (n base : ℕ) (es : List Entry) (number : ℕ) (k : MintAnswer → List Entry → A) (P : A → Type 0) →
@@ -61,7 +50,7 @@ pub mint-tells :
 unfolding mintWith lowestFree
 mint-tells n base es number k P h =
     all-found P (freeEntry n es) _ _
-    (λ e. h NoFreeEntry es (record { full = λ i l. none-free (isLive es) 0 (n - 0) e i (omega arith) (omega arith); unchanged = refl }))
+    (λ e. h NoFreeEntry es (record { full = λ i l. none-free (isLive es) 0 n e i (omega arith) l; unchanged = refl }))
     (λ i e. h (Minted _) _ (record { at = i; place = lowest-at (isLive es) 0 n i e; answer = refl; entries = refl }))
 
 module _ {n base number : ℕ} {es after : List Entry} {c : CapId} (m : Accepted n base es number c after) where

@@ -6,7 +6,7 @@ use lib.ListN.{length}
 use Rattle.laws.specs.Every.{every}
 use Rattle.laws.proofs.Every.{every-none, every-step, every-done}
 use Rattle.ipc.specs.SoundTest.{endpointOk}
-use Rattle.ipc.proofs.Shapes.{unmapped}
+use Rattle.laws.proofs.Lists.{unmapped}
 use Rattle.ipc.proofs.Reading.{endpoint-read}
 use borrow.Author.Needs.{needs}
 use Rattle.ipc.proofs.sound.endpoints_ok.Statement.{statement}

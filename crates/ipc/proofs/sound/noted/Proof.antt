@@ -3,7 +3,7 @@ use borrow.Author.Needs.{needs}
 use native.Mathlib.Omega.{arith}
 use mathlib.Core.Path.{_≡_}
 use lib.ListN.{length}
-use Rattle.ipc.proofs.Shapes.{unmapped}
+use Rattle.laws.proofs.Lists.{unmapped}
 use Rattle.ipc.proofs.Last.{noted-below, noted-end, noted-none}
 use Rattle.ipc.proofs.sound.noted.Statement.{statement}
 use Rattle.ipc.proofs.sound.noted.Tie as tie

@@ -1,16 +1,12 @@
 -- A test taken apart: what each part of a conjunction, a disjunction or a choice says where the whole holds. Assumes nothing.
 use mathlib.Core.Path.{_≡_, refl}
 use mathlib.Core.Bool.{Bool, true, false, _&&_, _||_}
-use mathlib.Core.Logic.{_⊎_, inl, inr}
+use mathlib.Core.Logic.{_⊎_, inl, inr, ⊎-elim}
 use Prim.Native.Nat.{ℕ, _≤_, _<_}
-use native.Mathlib.Omega.{arith}
 use borrow.Author.Tests.{ltb-true, ltb-false, eqb-true, eqb-false}
 use lib.Dec.{ltb, eqb}
 use Rattle.laws.specs.Pick.{pick}
 use Rattle.laws.proofs.Every.{and-left, and-right}
-
-pub true-false : {b : Bool} → b ≡ true → b ≡ false → ⊥
-true-false p q = let z : _≡_ {A = ℕ} 0 1 = cc in omega arith
 
 pub either : (b : Bool) → (b ≡ true) ⊎ (b ≡ false)
 either true = inl refl
@@ -47,3 +43,7 @@ picked t a b h e = rw e at h
 pub not-picked : (t a b : Bool) → pick t a b ≡ true → t ≡ false → b ≡ true
 unfolding pick
 not-picked t a b h e = rw e at h
+
+-- one thing where two numbers are equal, another where they are not
+pub by-equal : {A : Type 0} (a b : ℕ) → (a ≡ b → A) → ((a ≡ b → ⊥) → A) → A
+by-equal a b y n = ⊎-elim y n (same? a b)
