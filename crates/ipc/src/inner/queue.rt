@@ -63,6 +63,7 @@ pub fn send(mut t: Table, cap: CapId, msg: Message) -> Sending
         };
     };
     let b = t.mailboxes[k];
+    // The Rust's guard: no sound table gets here.
     if !b.live {
         t.refusals.state = raised(t.refusals.state);
         return Sending {
@@ -102,6 +103,7 @@ pub fn try_recv(mut t: Table, cap: CapId) -> Receiving
         };
     };
     let b = t.mailboxes[k];
+    // The Rust's guard: no sound table gets here.
     if !b.live {
         t.refusals.state = raised(t.refusals.state);
         return Receiving {
@@ -139,6 +141,7 @@ pub fn park(mut t: Table, cap: CapId, me: TaskId) -> Parking
         };
     };
     let mut b = t.mailboxes[k];
+    // The Rust's guard: no sound table gets here.
     if !b.live {
         t.refusals.state = raised(t.refusals.state);
         return Parking {

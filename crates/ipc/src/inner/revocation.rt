@@ -26,6 +26,7 @@ fn killed(mut ep: Endpoint, k: usize) -> Endpoint
     ep
 }
 
+// Kills both ends of the channel that `cap` names, by either of them, and answers the waiter.
 pub fn revoke_channel(mut t: Table, cap: CapId) -> Revoking
     requires { ⌜ Sound t ⌝ }
     ensures { λ r. ⌜ r ≡ revokeOf t cap ⌝ }
@@ -39,6 +40,7 @@ pub fn revoke_channel(mut t: Table, cap: CapId) -> Revoking
             table: t,
         };
     };
+    // The Rust's guard: no sound table gets here.
     if k >= t.sizes.mailboxes {
         t.refusals.state = raised(t.refusals.state);
         return Revoking {
@@ -49,12 +51,12 @@ pub fn revoke_channel(mut t: Table, cap: CapId) -> Revoking
     let b = t.mailboxes[k];
     let woken = b.waiter;
     let mut j: usize = 0;
-    while j < 64 {
+    while j < MAX_ENDPOINTS {
         t.endpoints[j] = killed(t.endpoints[j], k);
         j += 1;
     }
     let mut p: usize = 0;
-    while p < 8 {
+    while p < MAX_DEPTH {
         t.messages[k * MAX_DEPTH + p] = Message { tag: 0, a: 0, b: 0 };
         p += 1;
     }

@@ -4,6 +4,7 @@ ghost use Rattle.ipc.specs.Sound.{Sound};
 ghost use Rattle.ipc.specs.Waiters.{waitsOn, clearOf};
 use crate::answers::ClearAnswer;
 use crate::answers::Clearing;
+use crate::state::MAX_MAILBOXES;
 use crate::state::Mailbox;
 use crate::state::Table;
 use crate::state::TaskId;
@@ -26,7 +27,7 @@ pub fn clear_waiter(mut t: Table, task: TaskId) -> Clearing
     };
     let mut cleared: u32 = 0;
     let mut k: usize = 0;
-    while k < 32 {
+    while k < MAX_MAILBOXES {
         let mut b = t.mailboxes[k];
         if waits_on(b, task) {
             b.waiter = nobody;
