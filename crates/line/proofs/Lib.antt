@@ -1,0 +1,4 @@
+pub mod Pieces
+pub mod Room
+pub mod Says
+pub mod Sizes

@@ -1,0 +1,48 @@
+-- `line::write_end` meets its contract: the part of the local buffer that is put is the line. Assumes nothing.
+use mathlib.Core.Path.{sym}
+use native.Mathlib.Omega.{arith}
+use lib.ListN.{take}
+use lib.Seq.{length-take-le}
+use Rattle.line.proofs.Room.{from-buffer}
+use borrow.Author.Needs.{needs}
+use Rattle.line.proofs.write_end.Statement.{statement}
+use Rattle.line.proofs.write_end.Tie as tie
+
+slice-aggregate-said : tie.Need-slice-aggregate-said
+slice-aggregate-said c = search needs
+
+said-requires : tie.Need-said-requires
+said-requires c κs = search needs
+
+array-share-prefix-b : tie.Need-array-share-prefix-b
+array-share-prefix-b c = search needs
+
+slice-aggregate-put : tie.Need-slice-aggregate-put
+slice-aggregate-put c =
+    let t = c .before .before .before .said in
+    sym (length-take-le (t .result) (t .last .0) (omega (arith, t .kept .0, t .ensures .0)))
+
+put-requires : tie.Need-put-requires
+put-requires c κs = search needs
+
+same-length : tie.Need-same-length
+same-length c = search needs
+
+returns : tie.Need-returns
+returns c =
+    let a = c .before .before .before .before .before .before .before .before .before .args in
+    let t = c .before .before .before .before .before .before .said in
+    let p = c .before .before .put in
+    from-buffer (a .out .now) (p .last .0) (a .at) _ (take (t .result) (t .last .0)) (p .result) (t .ensures .1) (p .ensures .0) (p .ensures .1)
+
+pub write-end-spec : {M : Type 1} → statement M
+write-end-spec =
+    tie.close
+    (tie.spec
+    slice-aggregate-said
+    said-requires
+    array-share-prefix-b
+    slice-aggregate-put
+    put-requires
+    same-length
+    returns)
