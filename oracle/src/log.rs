@@ -6,11 +6,11 @@ use crate::runqueue::TaskId;
 /// A longer log is not read.
 pub const MOST: usize = 65_536;
 
-const MARK: [u8; 2] = [0x4b, 0x43];
-const HEAD: usize = MARK.len() + 1;
+pub const MARK: [u8; 2] = [0x4b, 0x43];
+pub const HEAD: usize = MARK.len() + 1;
 
 /// Operand lengths by operation.
-const LENGTHS: [usize; 28] = [
+pub const LENGTHS: [usize; 28] = [
     3, 1, 24, 4, 8, 4, 4, 20, 20, 4, 4, 0, 0, 2, 5, 21, 6, 4, 1, 4, 4, 4, 4, 4, 21, 1, 6, 0,
 ];
 

@@ -2,7 +2,14 @@
 
 mod bind;
 mod cases;
+mod damage;
+mod draft;
+mod draw;
 mod dump;
+mod edges;
+mod generate;
+mod ids;
+mod kinds;
 mod log;
 mod operations;
 mod random;
@@ -16,7 +23,9 @@ mod views;
 include!(concat!(env!("OUT_DIR"), "/harbor.rs"));
 
 use std::io::{self, Read, Write};
+use std::path::{Path, PathBuf};
 use std::process::ExitCode;
+use std::{fs, panic};
 
 const USAGE: &str = "usage: oracle COMMAND
   bind-edges                  cases of bind on both sides of each edge
@@ -24,14 +33,21 @@ const USAGE: &str = "usage: oracle COMMAND
   bind-cases SEED COUNT       drawn cases of bind
   bind-bad-words SEED COUNT   drawn cases of bind, each with a word that does not read
   bind                        reads cases, prints the Rust's answers
+  rounds COUNT                a message in and out, COUNT times, for measuring
   replay                      reads an operation log, prints the Rust's lines
   dump                        as replay, and then every field of every table
+  dump-all FOLDER             writes what dump prints for each NAME.log there to NAME.rust
+  generate SEED KIND          a drawn log: mixed, queues, churn, rows, mints or edges, each also with long- before it;
+                              damaged; full and over (65,536 bytes and one more); empty
+  generate-many SEED COUNT FOLDER   drawn logs of all kinds, as files
   rounds COUNT                a message in and out, COUNT times, for measuring
-  sizes                       the sizes of channel table that a log may ask for";
+  sizes                       the sizes of channel table that a log may ask for
+  where                       this program's own path";
 
 fn main() -> ExitCode {
     let words: Vec<String> = std::env::args().skip(1).collect();
     let words: Vec<&str> = words.iter().map(String::as_str).collect();
+    keep_rows_quiet();
     match run(&words).and_then(|bytes| io::stdout().write_all(&bytes).map_err(say)) {
         Ok(()) => ExitCode::SUCCESS,
         Err(why) => {
@@ -39,6 +55,18 @@ fn main() -> ExitCode {
             ExitCode::FAILURE
         }
     }
+}
+
+/// A bad row makes transfer panic, which is an answer here. Any other panic is
+/// shown, and ends the run.
+fn keep_rows_quiet() {
+    let show = panic::take_hook();
+    panic::set_hook(Box::new(move |what| {
+        let file = what.location().map_or("", |at| at.file());
+        if !file.ends_with("capslots.rs") {
+            show(what);
+        }
+    }));
 }
 
 /// What the command writes.
@@ -53,11 +81,21 @@ fn run(words: &[&str]) -> Result<Vec<u8>, String> {
         ["bind"] => Ok(bind::answers(&input()?)?.into_bytes()),
         ["rounds", count] => Ok(format!("{}\n", rounds::rounds(number(count)?)).into_bytes()),
         ["sizes"] => Ok(sizes().into_bytes()),
-        ["replay"] => Ok(replayed()?.0.into_bytes()),
-        ["dump"] => {
-            let (lines, tables) = replayed()?;
-            Ok((lines + &dump::dump(&tables)).into_bytes())
+        ["replay"] => Ok(replay::replay(&input()?)?.0.into_bytes()),
+        ["dump"] => Ok(dumped(&input()?)?.into_bytes()),
+        ["dump-all", folder] => {
+            for path in logs(folder)? {
+                let text = dumped(&fs::read(&path).map_err(say)?)?;
+                fs::write(path.with_extension("rust"), text).map_err(say)?;
+            }
+            Ok(Vec::new())
         }
+        ["generate", seed, kind] => generate::generate(number(seed)?, kind),
+        ["generate-many", seed, count, folder] => {
+            generate::many(number(seed)?, number(count)?, Path::new(folder))?;
+            Ok(Vec::new())
+        }
+        ["where"] => Ok(format!("{}\n", here()?.display()).into_bytes()),
         _ => Err(USAGE.into()),
     }
 }
@@ -68,11 +106,22 @@ fn written(cases: Vec<cases::Case>) -> Vec<u8> {
     out
 }
 
-fn replayed() -> Result<(String, tables::Tables), String> {
-    // transfer's panics are answers here; any other ends in an error below
-    std::panic::set_hook(Box::new(|_| {}));
-    let log = input()?;
-    std::panic::catch_unwind(|| replay::replay(&log)).unwrap_or(Err("the Rust panicked".into()))
+fn dumped(log: &[u8]) -> Result<String, String> {
+    let (lines, tables) = replay::replay(log)?;
+    Ok(lines + &dump::dump(&tables))
+}
+
+/// The logs of a folder, in order.
+fn logs(folder: &str) -> Result<Vec<PathBuf>, String> {
+    let entries = fs::read_dir(folder).map_err(|why| format!("{folder}: {why}"))?;
+    let mut paths: Vec<_> = entries.flatten().map(|entry| entry.path()).collect();
+    paths.retain(|path| path.extension().is_some_and(|it| it == "log"));
+    paths.sort();
+    Ok(paths)
+}
+
+fn here() -> Result<PathBuf, String> {
+    std::env::current_exe().map_err(say)
 }
 
 fn sizes() -> String {

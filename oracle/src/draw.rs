@@ -1,0 +1,140 @@
+//! Drawn operands: mostly such that the operation does something, sometimes
+//! stale, near, or at an edge.
+
+use crate::draft::Draft;
+use crate::edges;
+use crate::ids::End;
+use crate::random::Random;
+use crate::tables::{ROWS, SIZES, SLOTS};
+
+/// The operands of an operation. One in `edge_in` values is at an edge.
+pub fn operands(d: &mut Draft, edge_in: u64, operation: u8) -> Vec<u8> {
+    let mut draw = Draw { d, edge_in };
+    match operation {
+        0 => draw.sizes().to_vec(),
+        1 => vec![draw.random().below(2) as u8],
+        2 => [bytes(draw.id(End::Send)), draw.message()].concat(),
+        3 => bytes(draw.id(End::Receive)),
+        4 => [bytes(draw.id(End::Receive)), draw.task()].concat(),
+        5 | 6 => bytes(draw.id(End::Either)),
+        7 | 8 => draw.list(),
+        9 => bytes(draw.id(End::Send)),
+        10 => draw.task(),
+        13 => vec![draw.row(), draw.slot()],
+        14 => {
+            let row = draw.row();
+            [vec![row], bytes(draw.held(row))].concat()
+        }
+        15 | 24 => [vec![draw.row()], draw.list()].concat(),
+        16 | 26 => [vec![draw.row(), draw.slot()], bytes(draw.id(End::Either))].concat(),
+        17 => draw.two_places(),
+        18 | 25 => vec![draw.row()],
+        19 | 21 | 22 => bytes(draw.number()),
+        20 | 23 => bytes(draw.minted()),
+        _ => Vec::new(),
+    }
+}
+
+fn bytes(word: u32) -> Vec<u8> {
+    word.to_le_bytes().to_vec()
+}
+
+pub struct Draw<'a> {
+    pub d: &'a mut Draft,
+    edge_in: u64,
+}
+
+impl Draw<'_> {
+    pub fn random(&mut self) -> &mut Random {
+        &mut self.d.random
+    }
+
+    pub fn one_in(&mut self, n: u64) -> bool {
+        self.random().below(n) == 0
+    }
+
+    pub fn at_edge(&mut self) -> bool {
+        self.one_in(self.edge_in)
+    }
+
+    fn sizes(&mut self) -> [u8; 3] {
+        if self.one_in(4) || self.at_edge() {
+            return self.random().pick(&edges::REFUSED_SIZES);
+        }
+        self.random().pick(&SIZES).map(|size| size as u8)
+    }
+
+    fn message(&mut self) -> Vec<u8> {
+        let sent = self.d.known.sent;
+        let (tag, a, b) = match self.random().below(32) {
+            0 => (u32::MAX, u64::MAX, u64::MAX),
+            1 => (0, 0, 0),
+            _ => (sent, self.random().next(), sent.into()),
+        };
+        [bytes(tag), a.to_le_bytes().into(), b.to_le_bytes().into()].concat()
+    }
+
+    fn task(&mut self) -> Vec<u8> {
+        let likely = if self.one_in(4) {
+            edges::TASKS.len()
+        } else {
+            3
+        };
+        let task = self.random().pick(&edges::TASKS[..likely]);
+        task.iter().flat_map(|part| part.to_le_bytes()).collect()
+    }
+
+    /// Four places; some lists name one channel again and again.
+    fn list(&mut self) -> Vec<u8> {
+        let same = self.one_in(6).then(|| self.id(End::Send));
+        let mut list = Vec::new();
+        for _ in 0..SLOTS {
+            if self.one_in(4) {
+                list.extend([0; 5]);
+                continue;
+            }
+            let end = match self.random().below(6) {
+                0 => End::Either,
+                _ => End::Send,
+            };
+            list.push(1);
+            list.extend(bytes(same.unwrap_or_else(|| self.id(end))));
+        }
+        list
+    }
+
+    /// Mostly one of few, so that rows fill.
+    fn row(&mut self) -> u8 {
+        if self.at_edge() {
+            return self.random().pick(&edges::ROWS);
+        }
+        let rows = if self.one_in(8) { ROWS } else { 3 };
+        self.random().below(rows as u64) as u8
+    }
+
+    pub fn slot(&mut self) -> u8 {
+        if self.at_edge() {
+            return self.random().pick(&edges::SLOTS);
+        }
+        self.random().below(SLOTS as u64) as u8
+    }
+
+    /// From row and slot, to row and slot: at times one place twice.
+    fn two_places(&mut self) -> Vec<u8> {
+        let from = [self.row(), self.slot()];
+        let to = if self.one_in(8) {
+            from
+        } else {
+            [self.row(), self.slot()]
+        };
+        [from, to].concat()
+    }
+
+    /// A task's one number, or a cookie.
+    fn number(&mut self) -> u32 {
+        if self.at_edge() {
+            return self.random().pick(&edges::NUMBERS);
+        }
+        self.random().below(6) as u32
+    }
+}
