@@ -2,6 +2,7 @@
 
 mod bind;
 mod cases;
+mod coverage;
 mod damage;
 mod draft;
 mod draw;
@@ -18,6 +19,7 @@ mod rounds;
 mod tables;
 mod tasks;
 mod views;
+mod ways;
 
 // The modules of the Rust text: build.rs makes the list.
 include!(concat!(env!("OUT_DIR"), "/harbor.rs"));
@@ -40,7 +42,7 @@ const USAGE: &str = "usage: oracle COMMAND
   generate SEED KIND          a drawn log: mixed, queues, churn, rows, mints or edges, each also with long- before it;
                               damaged; full and over (65,536 bytes and one more); empty
   generate-many SEED COUNT FOLDER   drawn logs of all kinds, as files
-  rounds COUNT                a message in and out, COUNT times, for measuring
+  coverage FOLDER             runs each log there; fails where a number that can occur did not
   sizes                       the sizes of channel table that a log may ask for
   where                       this program's own path";
 
@@ -95,6 +97,7 @@ fn run(words: &[&str]) -> Result<Vec<u8>, String> {
             generate::many(number(seed)?, number(count)?, Path::new(folder))?;
             Ok(Vec::new())
         }
+        ["coverage", folder] => covered(folder),
         ["where"] => Ok(format!("{}\n", here()?.display()).into_bytes()),
         _ => Err(USAGE.into()),
     }
@@ -109,6 +112,20 @@ fn written(cases: Vec<cases::Case>) -> Vec<u8> {
 fn dumped(log: &[u8]) -> Result<String, String> {
     let (lines, tables) = replay::replay(log)?;
     Ok(lines + &dump::dump(&tables))
+}
+
+/// Prints the table whether or not anything is wrong with it.
+fn covered(folder: &str) -> Result<Vec<u8>, String> {
+    let mut coverage = coverage::Coverage::default();
+    for path in logs(folder)? {
+        coverage.add(&fs::read(path).map_err(say)?)?;
+    }
+    let (table, wrong) = coverage.table();
+    if wrong.is_empty() {
+        return Ok(table.into_bytes());
+    }
+    print!("{table}");
+    Err(wrong.join("\n"))
 }
 
 /// The logs of a folder, in order.
