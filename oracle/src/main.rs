@@ -20,6 +20,7 @@ mod tables;
 mod tasks;
 mod views;
 mod ways;
+mod wrap;
 
 // The modules of the Rust text: build.rs makes the list.
 include!(concat!(env!("OUT_DIR"), "/harbor.rs"));
@@ -43,6 +44,7 @@ const USAGE: &str = "usage: oracle COMMAND
                               damaged; full and over (65,536 bytes and one more); empty
   generate-many SEED COUNT FOLDER   drawn logs of all kinds, as files
   coverage FOLDER             runs each log there; fails where a number that can occur did not
+  wrap                        65,535 creations, until the first id opens again
   sizes                       the sizes of channel table that a log may ask for
   where                       this program's own path";
 
@@ -98,6 +100,7 @@ fn run(words: &[&str]) -> Result<Vec<u8>, String> {
             Ok(Vec::new())
         }
         ["coverage", folder] => covered(folder),
+        ["wrap"] => Ok(wrap::wrap()?.into_bytes()),
         ["where"] => Ok(format!("{}\n", here()?.display()).into_bytes()),
         _ => Err(USAGE.into()),
     }
