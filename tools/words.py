@@ -1,0 +1,131 @@
+"""What a log's records and a replay's lines say in words. docs/LOG.md has the format."""
+
+MARK = bytes.fromhex("4B43")
+
+# Each operation and the length of its operands.
+OPERATIONS = [
+    ("new", 3), ("create", 1), ("send", 24), ("receive", 4), ("park", 8), ("queued", 4), ("revoke", 4),
+    ("register", 20), ("release", 20), ("holders", 4), ("clear waiter", 4), ("note authority", 0), ("note state", 0),
+    ("get", 2), ("holds", 5), ("seed", 21), ("install", 6), ("transfer", 4), ("drain", 1),
+    ("task mint", 4), ("task lookup", 4), ("task end", 4), ("IRQ mint", 4), ("IRQ lookup", 4),
+    ("spawn", 21), ("leave", 1), ("give", 6), ("counts", 0),
+]  # fmt: skip
+
+REFUSALS = {
+    1: "BadCap", 2: "Full", 3: "Empty", 4: "Busy", 5: "Cancelled", 6: "NoMailbox", 7: "NoEndpoint", 8: "OutOfRange",
+    9: "Vacant", 10: "BadSlot", 11: "BadFromSlot", 12: "ToSlotFull", 13: "ToSlotOob", 14: "Untransferable",
+    15: "NoFreeEntry", 16: "NoSuchCapability", 17: "PacketPoolRequired", 18: "HeldVacant", 19: "BadRow", 20: "BadSizes",
+    21: "BadWord", 22: "BadMark", 23: "BadOp", 24: "Short", 25: "BadOperand", 26: "NoRoom", 27: "BadTable", 28: "TooLong",
+}  # fmt: skip
+
+# The count that a refusal raises, by operation and number.
+RAISED = {(2, 1): "authority", (3, 1): "authority", (4, 1): "authority", (6, 1): "authority", (2, 2): "full", (4, 4): "state"}
+
+
+def records(log):
+    """The log's whole records, each with its offset, up to the first that is not one."""
+    at = 0
+    while log[at : at + 2] == MARK and at + 2 < len(log) and log[at + 2] < len(OPERATIONS):
+        end = at + 3 + OPERATIONS[log[at + 2]][1]
+        if end > len(log):
+            break
+        yield at, log[at:end]
+        at = end
+
+
+def name(operation):
+    return OPERATIONS[operation][0] if operation < len(OPERATIONS) else f"operation {operation}"
+
+
+def say(line):
+    """One line of a replay in words."""
+    try:
+        match line.split():
+            case ["end", records]:
+                return f"the log ends after {counted(int(records), 'record')}"
+            case ["bad", offset, number]:
+                return f"the log cannot be read from offset {int(offset)} on: {refusal(int(number))}"
+            case words:
+                return answered(*map(int, words))
+    except (ValueError, IndexError, TypeError):
+        return "this is no line of a replay"
+
+
+def answered(record, operation, number, *values):
+    said = refused(operation, number, values) if number else accepted(operation, values)
+    return f"record {record}: {name(operation)} {said}"
+
+
+def refusal(number):
+    return f"{REFUSALS.get(number, 'no listed refusal')} ({number})"
+
+
+def refused(operation, number, values):
+    said = f"refused, {refusal(number)}"
+    if number == 8:
+        said += f": slot {values[0]} of {values[1]}"
+    if number == 9:
+        said += f": slot {values[0]}"
+    count = RAISED.get((operation, number))
+    return said + (f"; counted under {count}" if count else "")
+
+
+def accepted(operation, values):
+    said = shown(operation, values)
+    return "accepted" + (said if said.startswith(",") or not said else ": " + said)
+
+
+def shown(operation, values):
+    """The values of an accepted operation."""
+    match operation:
+        case 1:
+            return f"send id {values[0]}, receive id {values[1]}"
+        case 2 | 6 | 8 | 25:
+            return ", wakes " + (" and ".join(tasks(values)) or "nobody")
+        case 3:
+            return message(values)
+        case 4:
+            return message(values[1:]) if values[0] else ", the task waits"
+        case 5:
+            return f"{counted(values[0], 'message')} queued"
+        case 9:
+            return counted(values[0], "hold")
+        case 10:
+            return f"{counted(values[0], 'waiter')} cleared"
+        case 13 | 19 | 22:
+            return f"id {values[0]}"
+        case 14:
+            return "yes" if values[0] else "no"
+        case 18:
+            return ", ".join(f"id {place[0]}" if place else "vacant" for place in places(values, 1))
+        case 20:
+            return f"task number {values[0]}"
+        case 21:
+            return f"{counted(values[0], 'entry', 'entries')} ended"
+        case 23:
+            return f"cookie {values[0]}"
+        case 27:
+            return f"authority {values[0]}, full {values[1]}, state {values[2]}"
+    return ""
+
+
+def message(values):
+    return f"tag {values[0]}, a {values[1]}, b {values[2]}"
+
+
+def tasks(values):
+    return [f"task {place[0]} of epoch {place[1]}" for place in places(values, 2) if place]
+
+
+def places(values, size):
+    """The places of a row: `0`, or `1` and so many values, again and again."""
+    found, values = [], list(values)
+    while values:
+        end = 1 + size * values[0]
+        found.append(values[1:end])
+        values = values[end:]
+    return found
+
+
+def counted(n, one, many=None):
+    return f"{n} {one if n == 1 else many or one + 's'}"
