@@ -1,4 +1,8 @@
-"""What a log's records and a replay's lines say in words. docs/LOG.md has the format."""
+"""What a log's records and a replay's lines say in words. docs/LOG.md has the format.
+
+words.py < LINES: each line in words.
+"""
+import sys
 
 MARK = bytes.fromhex("4B43")
 
@@ -110,7 +114,7 @@ def shown(operation, values):
 
 
 def message(values):
-    return f"tag {values[0]}, a {values[1]}, b {values[2]}"
+    return f"message with tag {values[0]}, a {values[1]}, b {values[2]}"
 
 
 def tasks(values):
@@ -129,3 +133,8 @@ def places(values, size):
 
 def counted(n, one, many=None):
     return f"{n} {one if n == 1 else many or one + 's'}"
+
+
+if __name__ == "__main__":
+    for given in sys.stdin:
+        print(say(given))
