@@ -12,7 +12,6 @@ open-requires c κs = search needs
 enum-known-k : tie.Need-enum-known-k
 enum-known-k c = search needs
 
--- /work/main/target/rlib/cap.rlib/interface/lang/src/lib.rt:26:30
 enum-told : tie.Need-enum-told
 enum-told c = search needs
 
