@@ -24,13 +24,13 @@ pub fn give(channels: Channels, rows: Rows, row: usize, slot: usize, id: CapId) 
             rows,
         };
     };
-    let rows = installed.table;
+    let filled = installed.table;
     let list = [cap::word_of(Slot { present: true, id })];
     let registered = ipc::inner::register_holds(channels, &list);
-    let channels = registered.table;
+    let held = registered.table;
     Giving {
         answer: GiveAnswer::Given,
-        channels,
-        rows,
+        channels: held,
+        rows: filled,
     }
 }

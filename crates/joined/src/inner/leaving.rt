@@ -24,14 +24,14 @@ pub fn leave(channels: Channels, rows: Rows, row: usize) -> Leaving
     }
     let drained = capslots::drain(rows, row);
     let slots = drained.slots;
-    let rows = drained.table;
+    let emptied = drained.table;
     let released = ipc::inner::release_holds(channels, slots);
     let waiters = released.waiters;
-    let channels = released.table;
+    let freed = released.table;
     Leaving {
         answer: LeaveAnswer::Left,
         waiters,
-        channels,
-        rows,
+        channels: freed,
+        rows: emptied,
     }
 }

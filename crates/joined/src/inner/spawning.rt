@@ -29,12 +29,12 @@ pub fn spawn(channels: Channels, rows: Rows, row: usize, list: &[u64]) -> Spawni
         };
     }
     let seeded = capslots::seed(rows, row, list);
-    let rows = seeded.table;
+    let filled = seeded.table;
     let registered = ipc::inner::register_holds(channels, list);
-    let channels = registered.table;
+    let held = registered.table;
     Spawning {
         answer: SpawnAnswer::Spawned,
-        channels,
-        rows,
+        channels: held,
+        rows: filled,
     }
 }
