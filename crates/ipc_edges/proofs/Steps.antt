@@ -44,6 +44,7 @@ use Rattle.ipc.specs.declared.answers.ClearAnswer as clear
 use Rattle.ipc.specs.declared.answers.Noting.{Noting}
 use Rattle.ipc.specs.declared.answers.NoteAnswer as note
 use Rattle.ipc.specs.declared.answers.RefusalsAnswer as counts
+use Rattle.ipc_edges.specs.People.{channelIn}
 use Rattle.laws.proofs.Cases.{all-pick}
 use Rattle.ipc.proofs.Fresh.{fresh-sound, in-range-of}
 use Rattle.ipc.proofs.Decide.{test-of}
@@ -147,6 +148,10 @@ module _ {A : Type 0} {table : A → Table} {x y : A} (s : Came table x y) where
 
   pub counts-are : {z : counts.RefusalsAnswer} → z ≡ refusalsCall (table x) → z ≡ refusalsOf (table y)
   counts-are e = e ∙ served (λ t. counts.the-variants.BadTable) refusalsOf
+
+-- a story that begins with a channel
+pub begun : {x : Table} (m e d : ℕ) (b : Bool) → inRange (sizesOf m e d) ≡ true → x ≡ channelIn m e d b → Came (λ (t : Table). t) x (channelIn m e d b)
+begun m e d b h same = record { same = same; sound = create-kept (newOf m e d .table) b (made m e d h refl .sound) }
 
 -- a table that fails the test is refused
 pub unserved : {A : Type 0} (t : Table) {x refusal : A} (rule : A) → soundTest t ≡ false → x ≡ guarded t refusal rule → x ≡ refusal

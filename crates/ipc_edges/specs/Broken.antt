@@ -2,17 +2,11 @@
 use mathlib.Core.Path.{_≡_}
 use mathlib.Core.Bool.{Bool, true, false}
 use Prim.Native.Nat.{ℕ}
-use Rattle.ipc.specs.Make.{newOf}
-use Rattle.ipc.specs.Create.{createOf}
 use Rattle.ipc.specs.SoundTest.{soundTest}
 use Rattle.ipc.specs.declared.state.Endpoint.{Endpoint}
 use Rattle.ipc.specs.declared.state.Mailbox.{Mailbox}
 use Rattle.ipc.specs.declared.state.Table.{Table}
 use Rattle.ipc_edges.specs.Values.{markOf}
-
--- sizes 2, 4, 2, and one channel
-unfoldable pub channelTable : Table
-channelTable = createOf (newOf 2 4 2 .table) false .table
 
 -- a live mailbox without holds
 abbrev pub boxOf : ℕ → ℕ → Bool → Bool → Mailbox

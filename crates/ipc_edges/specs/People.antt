@@ -1,9 +1,13 @@
 -- Who and what the stories speak of, as in the code.
-use mathlib.Core.Bool.{true, false}
+use mathlib.Core.Bool.{Bool, true, false}
+use Prim.Native.Nat.{ℕ}
 use Rattle.cap.specs.declared.CapId.{CapId}
 use Rattle.cap.specs.declared.slot.Slot.{Slot}
 use Rattle.ipc.specs.declared.state.Message.{Message}
+use Rattle.ipc.specs.Make.{newOf}
+use Rattle.ipc.specs.Create.{createOf}
 use Rattle.ipc.specs.declared.state.TaskId.{TaskId}
+use Rattle.ipc.specs.declared.state.Table.{Table}
 
 abbrev pub SEND : CapId
 SEND = record { raw = 65536 }
@@ -46,3 +50,7 @@ LETTER = record { tag = 7; a = 1; b = 2 }
 
 abbrev pub REPLY : Message
 REPLY = record { tag = 8; a = 3; b = 4 }
+
+-- a table of sizes m, e, d with one channel
+abbrev pub channelIn : ℕ → ℕ → ℕ → Bool → Table
+channelIn m e d ephemeral = createOf (newOf m e d .table) ephemeral .table

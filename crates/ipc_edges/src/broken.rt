@@ -3,23 +3,16 @@ ghost use mathlib.Core.Path.{_≡_};
 ghost use Prim.Native.Nat.{_<_};
 ghost use lib.ListN.{set};
 ghost use Rattle.ipc.specs.State.{withEndpoints, withMailboxes, withMessages};
-ghost use Rattle.ipc_edges.specs.Broken.{Unsound, channelTable, boxOf, endOf};
+ghost use Rattle.ipc_edges.specs.Broken.{Unsound, boxOf, endOf};
 use crate::people::ANN;
 use crate::people::LETTER;
+use crate::start;
 use cap::CapRights;
 use ipc::state::Endpoint;
 use ipc::state::Mailbox;
 use ipc::state::Message;
 use ipc::state::Table;
 use ipc::state::Waiter;
-
-fn channel() -> Table
-    ensures { λ r. ⌜ r ≡ channelTable ⌝ }
-{
-    let n = ipc::new(2, 4, 2);
-    let c = ipc::create_channel(n.table);
-    c.table
-}
 
 fn with_endpoint(t: Table, i: usize, e: Endpoint) -> Table
     requires { ⌜ i < 64 ⌝ }
@@ -81,7 +74,7 @@ fn endpoint(live: bool, generation: u16, bits: u8, mailbox: u8) -> Endpoint
 pub fn next_generation_0() -> Table
     ensures { λ r. ⌜ Unsound r 20402 ⌝ }
 {
-    let mut t = channel();
+    let mut t = start::plain(2, 4, 2);
     t.next_gen = 0;
     t
 }
@@ -89,7 +82,7 @@ pub fn next_generation_0() -> Table
 pub fn depth_0() -> Table
     ensures { λ r. ⌜ Unsound r 2020400 ⌝ }
 {
-    let mut t = channel();
+    let mut t = start::plain(2, 4, 2);
     let mut z = t.sizes;
     z.depth = 0;
     t.sizes = z;
@@ -99,65 +92,65 @@ pub fn depth_0() -> Table
 pub fn names_dead_mailbox() -> Table
     ensures { λ r. ⌜ Unsound r 2020402 ⌝ }
 {
-    with_endpoint(channel(), 0, endpoint(true, 1, 1, 1))
+    with_endpoint(start::plain(2, 4, 2), 0, endpoint(true, 1, 1, 1))
 }
 
 pub fn mailbox_without_ends() -> Table
     ensures { λ r. ⌜ Unsound r 2020402 ⌝ }
 {
-    with_mailbox(channel(), 1, mailbox(0, 0, false, false))
+    with_mailbox(start::plain(2, 4, 2), 1, mailbox(0, 0, false, false))
 }
 
 pub fn waits_with_message() -> Table
     ensures { λ r. ⌜ Unsound r 2020402 ⌝ }
 {
-    with_mailbox(channel(), 0, mailbox(1, 1, true, false))
+    with_mailbox(start::plain(2, 4, 2), 0, mailbox(1, 1, true, false))
 }
 
 pub fn endpoint_past_size() -> Table
     ensures { λ r. ⌜ Unsound r 2020402 ⌝ }
 {
-    with_endpoint(channel(), 4, endpoint(false, 1, 0, 0))
+    with_endpoint(start::plain(2, 4, 2), 4, endpoint(false, 1, 0, 0))
 }
 
 pub fn message_in_dead_mailbox() -> Table
     ensures { λ r. ⌜ Unsound r 2020402 ⌝ }
 {
-    with_message(channel(), 8, LETTER)
+    with_message(start::plain(2, 4, 2), 8, LETTER)
 }
 
 pub fn message_past_depth() -> Table
     ensures { λ r. ⌜ Unsound r 2020402 ⌝ }
 {
-    with_message(channel(), 2, LETTER)
+    with_message(start::plain(2, 4, 2), 2, LETTER)
 }
 
 pub fn ring_apart() -> Table
     ensures { λ r. ⌜ Unsound r 2020402 ⌝ }
 {
-    with_mailbox(channel(), 0, mailbox(1, 0, false, false))
+    with_mailbox(start::plain(2, 4, 2), 0, mailbox(1, 0, false, false))
 }
 
 pub fn waits_without_hold() -> Table
     ensures { λ r. ⌜ Unsound r 2020402 ⌝ }
 {
-    with_mailbox(channel(), 0, mailbox(0, 0, true, true))
+    with_mailbox(start::plain(2, 4, 2), 0, mailbox(0, 0, true, true))
 }
 
 pub fn both_rights() -> Table
     ensures { λ r. ⌜ Unsound r 2020402 ⌝ }
 {
-    with_endpoint(channel(), 0, endpoint(true, 1, 3, 0))
+    with_endpoint(start::plain(2, 4, 2), 0, endpoint(true, 1, 3, 0))
 }
 
 pub fn two_send_ends() -> Table
     ensures { λ r. ⌜ Unsound r 2020402 ⌝ }
 {
-    with_endpoint(channel(), 2, endpoint(true, 1, 1, 0))
+    with_endpoint(start::plain(2, 4, 2), 2, endpoint(true, 1, 1, 0))
 }
 
 pub fn two_generations() -> Table
     ensures { λ r. ⌜ Unsound r 2020402 ⌝ }
 {
-    with_endpoint(channel(), 1, endpoint(true, 2, 2, 0))
+    with_endpoint(start::plain(2, 4, 2), 1, endpoint(true, 2, 2, 0))
 }

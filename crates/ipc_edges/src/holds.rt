@@ -4,6 +4,7 @@ ghost use mathlib.Core.List.{[], _∷_};
 use crate::counts;
 use crate::people::ANN;
 use crate::people::BEN;
+use crate::people::LETTER;
 use crate::people::OTHER_RECV;
 use crate::people::OTHER_SEND_SLOT;
 use crate::people::OTHER_SEND_WORD;
@@ -16,19 +17,19 @@ use crate::people::SEND_WORD;
 use crate::people::UNOPENED_SLOT;
 use crate::people::UNOPENED_WORD;
 use crate::people::VACANT;
+use crate::start;
 use crate::values;
 
 // Vacant places, a receive end and an id that opens nothing are skipped; an id that is there twice counts twice.
 pub fn registered() -> [u64; 4]
     ensures { λ r. ⌜ r ≡ 0 ∷ 0 ∷ 0 ∷ 2 ∷ [] ⌝ }
 {
-    let fresh = ipc::new(1, 2, 1);
-    let channel = ipc::create_channel(fresh.table);
+    let t = start::plain(1, 2, 1);
     let list = [0, SEND_WORD, RECV_WORD, UNOPENED_WORD, SEND_WORD];
-    let holding = ipc::register_holds(channel.table, &list);
+    let holding = ipc::register_holds(t, &list);
     let answer = ipc::send_holders(holding.table, SEND);
     [
-        counts::holders(ipc::send_holders(channel.table, SEND)),
+        counts::holders(ipc::send_holders(t, SEND)),
         counts::registered(holding),
         counts::asked(answer),
         counts::holders(answer),
@@ -39,10 +40,9 @@ pub fn registered() -> [u64; 4]
 pub fn bad_word() -> [u64; 2]
     ensures { λ r. ⌜ r ≡ 21 ∷ 0 ∷ [] ⌝ }
 {
-    let fresh = ipc::new(1, 2, 1);
-    let channel = ipc::create_channel(fresh.table);
+    let t = start::plain(1, 2, 1);
     let list = [SEND_WORD, 1];
-    let holding = ipc::register_holds(channel.table, &list);
+    let holding = ipc::register_holds(t, &list);
     [
         counts::registered(holding),
         counts::holders(ipc::send_holders(holding.table, SEND)),
@@ -53,10 +53,9 @@ pub fn bad_word() -> [u64; 2]
 pub fn released() -> [u64; 5]
     ensures { λ r. ⌜ r ≡ 0 ∷ 0 ∷ 1 ∷ 0 ∷ 0 ∷ [] ⌝ }
 {
-    let fresh = ipc::new(1, 2, 1);
-    let channel = ipc::create_channel(fresh.table);
+    let t = start::plain(1, 2, 1);
     let list = [SEND_WORD, SEND_WORD];
-    let holding = ipc::register_holds(channel.table, &list);
+    let holding = ipc::register_holds(t, &list);
     let one = ipc::release_holds(holding.table, [VACANT, SEND_SLOT, RECV_SLOT, UNOPENED_SLOT]);
     let rest = ipc::release_holds(one.table, [SEND_SLOT, SEND_SLOT, VACANT, VACANT]);
     [
@@ -68,36 +67,42 @@ pub fn released() -> [u64; 5]
     ]
 }
 
-// The last release on an ephemeral channel names the waiter in the first place, wherever the id stood; on another it leaves the waiter.
-pub fn last_release() -> [u64; 6]
-    ensures { λ r. ⌜ r ≡ 0 ∷ 0 ∷ 1005006 ∷ 0 ∷ 5 ∷ 0 ∷ [] ⌝ }
+// The last release on an ephemeral channel names the waiter in the first place, wherever the id stood.
+pub fn last_release() -> [u64; 5]
+    ensures { λ r. ⌜ r ≡ 0 ∷ 0 ∷ 1005006 ∷ 0 ∷ 5 ∷ [] ⌝ }
 {
-    let fresh = ipc::new(1, 2, 1);
-    let channel = ipc::create_channel_ephemeral(fresh.table);
+    let t = start::ephemeral(1, 2, 1);
     let list = [SEND_WORD];
-    let holding = ipc::register_holds(channel.table, &list);
+    let holding = ipc::register_holds(t, &list);
     let parked = ipc::park(holding.table, RECV, ANN);
     let freed = ipc::release_holds(parked.table, [VACANT, VACANT, VACANT, SEND_SLOT]);
-    let plain = ipc::create_channel(fresh.table);
-    let stays = ipc::park(plain.table, RECV, ANN);
-    let kept = ipc::release_holds(stays.table, [SEND_SLOT, VACANT, VACANT, VACANT]);
+    let after = ipc::park(freed.table, RECV, BEN);
     [
         values::parked(parked),
         counts::released(freed),
         counts::first_freed(freed),
         counts::second_freed(freed),
-        values::parked(ipc::park(freed.table, RECV, BEN)),
-        counts::first_freed(kept),
+        values::parked(after),
     ]
+}
+
+// On another channel it leaves the waiter, who is woken by the next message.
+pub fn not_cancelled() -> [u64; 2]
+    ensures { λ r. ⌜ r ≡ 0 ∷ 1005006 ∷ [] ⌝ }
+{
+    let t = start::plain(1, 2, 1);
+    let parked = ipc::park(t, RECV, ANN);
+    let kept = ipc::release_holds(parked.table, [SEND_SLOT, VACANT, VACANT, VACANT]);
+    let sent = ipc::send(kept.table, SEND, LETTER);
+    [counts::first_freed(kept), values::woken(sent)]
 }
 
 // Two channels lose their last hold in one release: their waiters come in list order.
 pub fn two_freed() -> [u64; 2]
     ensures { λ r. ⌜ r ≡ 1005007 ∷ 1005006 ∷ [] ⌝ }
 {
-    let fresh = ipc::new(2, 4, 1);
-    let channel = ipc::create_channel_ephemeral(fresh.table);
-    let both = ipc::create_channel_ephemeral(channel.table);
+    let t = start::ephemeral(2, 4, 1);
+    let both = ipc::create_channel_ephemeral(t);
     let list = [SEND_WORD, OTHER_SEND_WORD];
     let holding = ipc::register_holds(both.table, &list);
     let ann = ipc::park(holding.table, RECV, ANN);

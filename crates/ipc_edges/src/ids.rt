@@ -7,6 +7,7 @@ use crate::people::NEW_RECV;
 use crate::people::NEW_SEND;
 use crate::people::RECV;
 use crate::people::SEND;
+use crate::start;
 use crate::values;
 
 // The greatest sizes, and one past each; with 20 comes a table of sizes 0, 0, 1.
@@ -55,9 +56,8 @@ pub fn no_room() -> [u64; 6]
 pub fn dead_by_send() -> [u64; 7]
     ensures { λ r. ⌜ r ≡ 0 ∷ 1 ∷ 1 ∷ 1 ∷ 1 ∷ 1 ∷ 3000000 ∷ [] ⌝ }
 {
-    let fresh = ipc::new(1, 2, 1);
-    let channel = ipc::create_channel(fresh.table);
-    let ended = ipc::revoke_channel(channel.table, SEND);
+    let t = start::plain(1, 2, 1);
+    let ended = ipc::revoke_channel(t, SEND);
     let sent = ipc::send(ended.table, SEND, LETTER);
     let got = ipc::try_recv(sent.table, RECV);
     let again = ipc::revoke_channel(got.table, SEND);
@@ -76,9 +76,8 @@ pub fn dead_by_send() -> [u64; 7]
 pub fn dead_by_recv() -> [u64; 5]
     ensures { λ r. ⌜ r ≡ 0 ∷ 1 ∷ 1 ∷ 3 ∷ 2000000 ∷ [] ⌝ }
 {
-    let fresh = ipc::new(1, 2, 1);
-    let channel = ipc::create_channel(fresh.table);
-    let queued = ipc::send(channel.table, SEND, LETTER);
+    let t = start::plain(1, 2, 1);
+    let queued = ipc::send(t, SEND, LETTER);
     let ended = ipc::revoke_channel(queued.table, RECV);
     let sent = ipc::send(ended.table, SEND, LETTER);
     let again = ipc::revoke_channel(sent.table, RECV);

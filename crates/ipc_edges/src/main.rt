@@ -7,6 +7,7 @@ mod ids;
 mod people;
 mod queue;
 mod shown;
+mod start;
 mod unsound;
 mod values;
 mod waits;
@@ -30,11 +31,8 @@ fn ids_edges() {
 
 fn queue_edges() {
     shown::as_expected(38, &queue::full(), &[0, 2, 1000, 0, 7001002]);
-    shown::as_expected(
-        43,
-        &queue::in_order(),
-        &[0, 2, 0, 2, 7001002, 8003004, 3, 0, 0],
-    );
+    shown::as_expected(43, &queue::waiting(), &[0, 0, 1, 0, 1]);
+    shown::as_expected(48, &queue::in_order(), &[7001002, 8003004, 3, 0]);
     shown::as_expected(52, &queue::wrong_end(), &[1, 1, 1, 1, 1, 3000000]);
 }
 
@@ -44,31 +42,33 @@ fn waits_edges() {
     shown::as_expected(67, &waits::busy(), &[0, 4, 1, 0, 1005006]);
     shown::as_expected(72, &waits::given(), &[0, 7001002, 0, 0]);
     shown::as_expected(76, &waits::cancelled(), &[5, 0, 7001002, 5, 0]);
-    shown::as_expected(81, &waits::cleared(), &[0, 0, 1, 2, 0, 0]);
+    shown::as_expected(81, &waits::cleared(), &[0, 2, 0]);
+    shown::as_expected(84, &waits::cleared_once(), &[0, 1005006, 1, 0]);
 }
 
 fn holds_edges() {
-    shown::as_expected(87, &holds::registered(), &[0, 0, 0, 2]);
-    shown::as_expected(91, &holds::bad_word(), &[21, 0]);
-    shown::as_expected(93, &holds::released(), &[0, 0, 1, 0, 0]);
-    shown::as_expected(98, &holds::last_release(), &[0, 0, 1005006, 0, 5, 0]);
-    shown::as_expected(104, &holds::two_freed(), &[1005007, 1005006]);
+    shown::as_expected(88, &holds::registered(), &[0, 0, 0, 2]);
+    shown::as_expected(92, &holds::bad_word(), &[21, 0]);
+    shown::as_expected(94, &holds::released(), &[0, 0, 1, 0, 0]);
+    shown::as_expected(99, &holds::last_release(), &[0, 0, 1005006, 0, 5]);
+    shown::as_expected(104, &holds::not_cancelled(), &[0, 1005006]);
+    shown::as_expected(106, &holds::two_freed(), &[1005007, 1005006]);
 }
 
 fn unsound_edges() {
-    shown::refusing(106, broken::next_generation_0(), 20402);
-    shown::refusing(131, broken::depth_0(), 2020400);
-    shown::refusing(156, broken::names_dead_mailbox(), 2020402);
-    shown::refusing(181, broken::mailbox_without_ends(), 2020402);
-    shown::refusing(206, broken::waits_with_message(), 2020402);
-    shown::refusing(231, broken::endpoint_past_size(), 2020402);
-    shown::refusing(256, broken::message_in_dead_mailbox(), 2020402);
-    shown::refusing(281, broken::message_past_depth(), 2020402);
-    shown::refusing(306, broken::ring_apart(), 2020402);
-    shown::refusing(331, broken::waits_without_hold(), 2020402);
-    shown::refusing(356, broken::both_rights(), 2020402);
-    shown::refusing(381, broken::two_send_ends(), 2020402);
-    shown::refusing(406, broken::two_generations(), 2020402);
+    shown::refusing(108, broken::next_generation_0(), 20402);
+    shown::refusing(133, broken::depth_0(), 2020400);
+    shown::refusing(158, broken::names_dead_mailbox(), 2020402);
+    shown::refusing(183, broken::mailbox_without_ends(), 2020402);
+    shown::refusing(208, broken::waits_with_message(), 2020402);
+    shown::refusing(233, broken::endpoint_past_size(), 2020402);
+    shown::refusing(258, broken::message_in_dead_mailbox(), 2020402);
+    shown::refusing(283, broken::message_past_depth(), 2020402);
+    shown::refusing(308, broken::ring_apart(), 2020402);
+    shown::refusing(333, broken::waits_without_hold(), 2020402);
+    shown::refusing(358, broken::both_rights(), 2020402);
+    shown::refusing(383, broken::two_send_ends(), 2020402);
+    shown::refusing(408, broken::two_generations(), 2020402);
 }
 
 fn main() {

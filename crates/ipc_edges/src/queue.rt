@@ -8,15 +8,15 @@ use crate::people::NEW_SEND;
 use crate::people::RECV;
 use crate::people::REPLY;
 use crate::people::SEND;
+use crate::start;
 use crate::values;
 
 // Depth 1: the second send is Full, and counted; the message that was queued is the first.
 pub fn full() -> [u64; 5]
     ensures { λ r. ⌜ r ≡ 0 ∷ 2 ∷ 1000 ∷ 0 ∷ 7001002 ∷ [] ⌝ }
 {
-    let fresh = ipc::new(1, 2, 1);
-    let channel = ipc::create_channel(fresh.table);
-    let first = ipc::send(channel.table, SEND, LETTER);
+    let t = start::plain(1, 2, 1);
+    let first = ipc::send(t, SEND, LETTER);
     let second = ipc::send(first.table, SEND, REPLY);
     let got = ipc::try_recv(second.table, RECV);
     [
@@ -28,29 +28,37 @@ pub fn full() -> [u64; 5]
     ]
 }
 
-// Depth 2: both ends see how many wait; messages come in order, and then none.
-pub fn in_order() -> [u64; 9]
-    ensures { λ r. ⌜ r ≡ 0 ∷ 2 ∷ 0 ∷ 2 ∷ 7001002 ∷ 8003004 ∷ 3 ∷ 0 ∷ 0 ∷ [] ⌝ }
+// Both ends see how many wait.
+pub fn waiting() -> [u64; 5]
+    ensures { λ r. ⌜ r ≡ 0 ∷ 0 ∷ 1 ∷ 0 ∷ 1 ∷ [] ⌝ }
 {
-    let fresh = ipc::new(2, 4, 2);
-    let channel = ipc::create_channel(fresh.table);
-    let first = ipc::send(channel.table, SEND, LETTER);
-    let second = ipc::send(first.table, SEND, REPLY);
-    let by_send = ipc::queued(second.table, SEND);
-    let by_recv = ipc::queued(second.table, RECV);
-    let one = ipc::try_recv(second.table, RECV);
-    let two = ipc::try_recv(one.table, RECV);
-    let none = ipc::try_recv(two.table, RECV);
-    let left = ipc::queued(none.table, SEND);
+    let t = start::plain(1, 2, 2);
+    let sent = ipc::send(t, SEND, LETTER);
+    let by_send = ipc::queued(sent.table, SEND);
+    let by_recv = ipc::queued(sent.table, RECV);
     [
+        counts::waiting(ipc::queued(t, SEND)),
         counts::queued(by_send),
         counts::waiting(by_send),
         counts::queued(by_recv),
         counts::waiting(by_recv),
+    ]
+}
+
+// Depth 2: messages come in order, and then none, which is not counted.
+pub fn in_order() -> [u64; 4]
+    ensures { λ r. ⌜ r ≡ 7001002 ∷ 8003004 ∷ 3 ∷ 0 ∷ [] ⌝ }
+{
+    let t = start::plain(2, 4, 2);
+    let first = ipc::send(t, SEND, LETTER);
+    let second = ipc::send(first.table, SEND, REPLY);
+    let one = ipc::try_recv(second.table, RECV);
+    let two = ipc::try_recv(one.table, RECV);
+    let none = ipc::try_recv(two.table, RECV);
+    [
         values::message(one),
         values::message(two),
         values::received(none),
-        counts::waiting(left),
         counts::counts(ipc::refusals(none.table)),
     ]
 }
@@ -59,9 +67,8 @@ pub fn in_order() -> [u64; 9]
 pub fn wrong_end() -> [u64; 6]
     ensures { λ r. ⌜ r ≡ 1 ∷ 1 ∷ 1 ∷ 1 ∷ 1 ∷ 3000000 ∷ [] ⌝ }
 {
-    let fresh = ipc::new(1, 2, 1);
-    let channel = ipc::create_channel(fresh.table);
-    let sent = ipc::send(channel.table, RECV, LETTER);
+    let t = start::plain(1, 2, 1);
+    let sent = ipc::send(t, RECV, LETTER);
     let got = ipc::try_recv(sent.table, SEND);
     let parked = ipc::park(got.table, SEND, ANN);
     [

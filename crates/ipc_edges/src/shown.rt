@@ -28,6 +28,13 @@ pub fn as_expected(first: u64, got: &[u64], want: &[u64])
 pub fn refusing(first: u64, t: Table, mark: u64)
     requires { ⌜ Unsound t mark × (first < 900) ⌝ }
 {
-    as_expected(first, &unsound::refused(t), &[27; 14]);
-    as_expected(first + 14, &unsound::handed_back(t), &[mark; 11]);
+    as_expected(first, &unsound::creating(t), &[27, mark, 27, mark]);
+    as_expected(
+        first + 4,
+        &unsound::messages(t),
+        &[27, mark, 27, mark, 27, mark, 27],
+    );
+    as_expected(first + 11, &unsound::holds(t), &[27, mark, 27, mark, 27]);
+    as_expected(first + 16, &unsound::endings(t), &[27, mark, 27, mark]);
+    as_expected(first + 20, &unsound::refusals(t), &[27, mark, 27, mark, 27]);
 }

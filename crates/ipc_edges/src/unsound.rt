@@ -1,7 +1,7 @@
-// Tables that no call makes, and what every call says to them: 27, first of all, and the table back as it was.
+// What every call says to a table that no call makes: 27, first of all, and the table back with the mark that it had.
 ghost use mathlib.Core.Path.{_≡_};
 ghost use mathlib.Core.Bool.{false};
-ghost use lib.ListN.{replicate};
+ghost use mathlib.Core.List.{[], _∷_};
 ghost use Rattle.ipc.specs.SoundTest.{soundTest};
 ghost use Rattle.ipc_edges.specs.Values.{markOf};
 use crate::counts;
@@ -13,57 +13,80 @@ use crate::people::SEND_SLOT;
 use crate::values;
 use ipc::state::Table;
 
-// A list whose word does not read: 27 comes before 21.
-pub fn refused(t: Table) -> [u64; 14]
+pub fn creating(t: Table) -> [u64; 4]
     requires { ⌜ soundTest t ≡ false ⌝ }
-    ensures { λ r. ⌜ r ≡ replicate 14 27 ⌝ }
+    ensures { λ r. ⌜ r ≡ 27 ∷ markOf t ∷ 27 ∷ markOf t ∷ [] ⌝ }
 {
-    let list = [1];
+    let plain = ipc::create_channel(t);
+    let ephemeral = ipc::create_channel_ephemeral(t);
     [
-        values::created(ipc::create_channel(t)),
-        values::created(ipc::create_channel_ephemeral(t)),
-        values::sent(ipc::send(t, SEND, LETTER)),
-        values::received(ipc::try_recv(t, RECV)),
-        values::parked(ipc::park(t, RECV, ANN)),
-        counts::queued(ipc::queued(t, SEND)),
-        counts::asked(ipc::send_holders(t, SEND)),
-        counts::registered(ipc::register_holds(t, &list)),
-        counts::released(ipc::release_holds(t, [SEND_SLOT; 4])),
-        counts::revoked(ipc::revoke_channel(t, SEND)),
-        counts::cleared(ipc::clear_waiter(t, ANN)),
-        counts::noted(ipc::note_authority_refusal(t)),
-        counts::noted(ipc::note_state_refusal(t)),
-        counts::counted(ipc::refusals(t)),
+        values::created(plain),
+        values::mark(plain.table),
+        values::created(ephemeral),
+        values::mark(ephemeral.table),
     ]
 }
 
-pub fn handed_back(t: Table) -> [u64; 11]
+pub fn messages(t: Table) -> [u64; 7]
     requires { ⌜ soundTest t ≡ false ⌝ }
-    ensures { λ r. ⌜ r ≡ replicate 11 (markOf t) ⌝ }
+    ensures { λ r. ⌜ r ≡ 27 ∷ markOf t ∷ 27 ∷ markOf t ∷ 27 ∷ markOf t ∷ 27 ∷ [] ⌝ }
 {
-    let list = [1];
-    let create = ipc::create_channel(t);
-    let ephemeral = ipc::create_channel_ephemeral(t);
     let send = ipc::send(t, SEND, LETTER);
     let recv = ipc::try_recv(t, RECV);
     let park = ipc::park(t, RECV, ANN);
+    [
+        values::sent(send),
+        values::mark(send.table),
+        values::received(recv),
+        values::mark(recv.table),
+        values::parked(park),
+        values::mark(park.table),
+        counts::queued(ipc::queued(t, SEND)),
+    ]
+}
+
+// The list's word does not read: 27 comes before 21.
+pub fn holds(t: Table) -> [u64; 5]
+    requires { ⌜ soundTest t ≡ false ⌝ }
+    ensures { λ r. ⌜ r ≡ 27 ∷ markOf t ∷ 27 ∷ markOf t ∷ 27 ∷ [] ⌝ }
+{
+    let list = [1];
     let register = ipc::register_holds(t, &list);
     let release = ipc::release_holds(t, [SEND_SLOT; 4]);
+    [
+        counts::registered(register),
+        values::mark(register.table),
+        counts::released(release),
+        values::mark(release.table),
+        counts::asked(ipc::send_holders(t, SEND)),
+    ]
+}
+
+pub fn endings(t: Table) -> [u64; 4]
+    requires { ⌜ soundTest t ≡ false ⌝ }
+    ensures { λ r. ⌜ r ≡ 27 ∷ markOf t ∷ 27 ∷ markOf t ∷ [] ⌝ }
+{
     let revoke = ipc::revoke_channel(t, SEND);
     let clear = ipc::clear_waiter(t, ANN);
+    [
+        counts::revoked(revoke),
+        values::mark(revoke.table),
+        counts::cleared(clear),
+        values::mark(clear.table),
+    ]
+}
+
+pub fn refusals(t: Table) -> [u64; 5]
+    requires { ⌜ soundTest t ≡ false ⌝ }
+    ensures { λ r. ⌜ r ≡ 27 ∷ markOf t ∷ 27 ∷ markOf t ∷ 27 ∷ [] ⌝ }
+{
     let authority = ipc::note_authority_refusal(t);
     let state = ipc::note_state_refusal(t);
     [
-        values::mark(create.table),
-        values::mark(ephemeral.table),
-        values::mark(send.table),
-        values::mark(recv.table),
-        values::mark(park.table),
-        values::mark(register.table),
-        values::mark(release.table),
-        values::mark(revoke.table),
-        values::mark(clear.table),
+        counts::noted(authority),
         values::mark(authority.table),
+        counts::noted(state),
         values::mark(state.table),
+        counts::counted(ipc::refusals(t)),
     ]
 }

@@ -9,15 +9,15 @@ use crate::people::OTHER_RECV;
 use crate::people::RECV;
 use crate::people::REPLY;
 use crate::people::SEND;
+use crate::start;
 use crate::values;
 
 // A send names the waiter, taken out: the next names nobody.
 pub fn woken_by_send() -> [u64; 5]
     ensures { λ r. ⌜ r ≡ 0 ∷ 0 ∷ 1005006 ∷ 0 ∷ 0 ∷ [] ⌝ }
 {
-    let fresh = ipc::new(1, 2, 2);
-    let channel = ipc::create_channel(fresh.table);
-    let parked = ipc::park(channel.table, RECV, ANN);
+    let t = start::plain(1, 2, 2);
+    let parked = ipc::park(t, RECV, ANN);
     let first = ipc::send(parked.table, SEND, LETTER);
     let second = ipc::send(first.table, SEND, REPLY);
     [
@@ -33,11 +33,10 @@ pub fn woken_by_send() -> [u64; 5]
 pub fn woken_by_revoke() -> [u64; 4]
     ensures { λ r. ⌜ r ≡ 0 ∷ 1005006 ∷ 0 ∷ 0 ∷ [] ⌝ }
 {
-    let fresh = ipc::new(1, 2, 1);
-    let channel = ipc::create_channel(fresh.table);
-    let parked = ipc::park(channel.table, RECV, ANN);
+    let t = start::plain(1, 2, 1);
+    let parked = ipc::park(t, RECV, ANN);
     let ended = ipc::revoke_channel(parked.table, SEND);
-    let quiet = ipc::revoke_channel(channel.table, SEND);
+    let quiet = ipc::revoke_channel(t, SEND);
     [
         counts::revoked(ended),
         counts::woken(ended),
@@ -50,9 +49,8 @@ pub fn woken_by_revoke() -> [u64; 4]
 pub fn busy() -> [u64; 5]
     ensures { λ r. ⌜ r ≡ 0 ∷ 4 ∷ 1 ∷ 0 ∷ 1005006 ∷ [] ⌝ }
 {
-    let fresh = ipc::new(1, 2, 1);
-    let channel = ipc::create_channel(fresh.table);
-    let parked = ipc::park(channel.table, RECV, ANN);
+    let t = start::plain(1, 2, 1);
+    let parked = ipc::park(t, RECV, ANN);
     let other = ipc::park(parked.table, RECV, BEN);
     let again = ipc::park(other.table, RECV, ANN);
     let sent = ipc::send(again.table, SEND, LETTER);
@@ -69,9 +67,8 @@ pub fn busy() -> [u64; 5]
 pub fn given() -> [u64; 4]
     ensures { λ r. ⌜ r ≡ 0 ∷ 7001002 ∷ 0 ∷ 0 ∷ [] ⌝ }
 {
-    let fresh = ipc::new(1, 2, 1);
-    let channel = ipc::create_channel(fresh.table);
-    let sent = ipc::send(channel.table, SEND, LETTER);
+    let t = start::plain(1, 2, 1);
+    let sent = ipc::send(t, SEND, LETTER);
     let parked = ipc::park(sent.table, RECV, ANN);
     let again = ipc::send(parked.table, SEND, REPLY);
     [
@@ -86,9 +83,8 @@ pub fn given() -> [u64; 4]
 pub fn cancelled() -> [u64; 5]
     ensures { λ r. ⌜ r ≡ 5 ∷ 0 ∷ 7001002 ∷ 5 ∷ 0 ∷ [] ⌝ }
 {
-    let fresh = ipc::new(1, 2, 1);
-    let channel = ipc::create_channel_ephemeral(fresh.table);
-    let before = ipc::park(channel.table, RECV, ANN);
+    let t = start::ephemeral(1, 2, 1);
+    let before = ipc::park(t, RECV, ANN);
     let sent = ipc::send(before.table, SEND, LETTER);
     let parked = ipc::park(sent.table, RECV, ANN);
     let after = ipc::park(parked.table, RECV, ANN);
@@ -101,24 +97,37 @@ pub fn cancelled() -> [u64; 5]
     ]
 }
 
-// A task that waits on one mailbox and then on two; another task is not touched.
-pub fn cleared() -> [u64; 6]
-    ensures { λ r. ⌜ r ≡ 0 ∷ 0 ∷ 1 ∷ 2 ∷ 0 ∷ 0 ∷ [] ⌝ }
+// A task that waits on two mailboxes is taken out of both, and is not woken then.
+pub fn cleared() -> [u64; 3]
+    ensures { λ r. ⌜ r ≡ 0 ∷ 2 ∷ 0 ∷ [] ⌝ }
 {
-    let fresh = ipc::new(2, 4, 1);
-    let channel = ipc::create_channel(fresh.table);
-    let both = ipc::create_channel(channel.table);
+    let t = start::plain(2, 4, 1);
+    let both = ipc::create_channel(t);
     let one = ipc::park(both.table, RECV, ANN);
     let two = ipc::park(one.table, OTHER_RECV, ANN);
-    let other = ipc::clear_waiter(two.table, BEN);
     let gone = ipc::clear_waiter(two.table, ANN);
     let sent = ipc::send(gone.table, SEND, LETTER);
     [
-        counts::cleared(other),
-        counts::clearings(other),
-        counts::clearings(ipc::clear_waiter(one.table, ANN)),
+        counts::cleared(gone),
         counts::clearings(gone),
-        counts::clearings(ipc::clear_waiter(gone.table, ANN)),
         values::woken(sent),
+    ]
+}
+
+// One mailbox, and none; another task is not touched.
+pub fn cleared_once() -> [u64; 4]
+    ensures { λ r. ⌜ r ≡ 0 ∷ 1005006 ∷ 1 ∷ 0 ∷ [] ⌝ }
+{
+    let t = start::plain(1, 2, 1);
+    let parked = ipc::park(t, RECV, ANN);
+    let other = ipc::clear_waiter(parked.table, BEN);
+    let sent = ipc::send(other.table, SEND, LETTER);
+    let gone = ipc::clear_waiter(parked.table, ANN);
+    let none = ipc::clear_waiter(gone.table, ANN);
+    [
+        counts::clearings(other),
+        values::woken(sent),
+        counts::clearings(gone),
+        counts::clearings(none),
     ]
 }

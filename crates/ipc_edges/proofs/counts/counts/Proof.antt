@@ -1,51 +1,39 @@
+-- `ipc_edges::counts::counts` shows the three counts as its contract says. Assumes nothing.
 use mathlib.Core.Path.{refl}
 use borrow.Author.Needs.{needs}
 use Rattle.ipc_edges.proofs.counts.counts.Statement.{statement}
 use Rattle.ipc_edges.proofs.counts.counts.Tie as tie
-use Rattle.ipc_edges.proofs.counts.counts.Reads as reads
-use Rattle.ipc_edges.proofs.counts.counts.Lts as lts
 
--- src/counts.rt:134:32
 enum-known-a : tie.Need-enum-known-a
 enum-known-a c = search needs
 
--- src/counts.rt:135:14
 cast-result : tie.Need-cast-result
 cast-result c = search needs
 
--- src/counts.rt:135:13
 mul-result : tie.Need-mul-result
 mul-result c = search needs
 
--- src/counts.rt:135:47
 cast-result-2 : tie.Need-cast-result-2
 cast-result-2 c = search needs
 
--- src/counts.rt:135:46
 mul-result-2 : tie.Need-mul-result-2
 mul-result-2 c = search needs
 
--- src/counts.rt:135:13
 add-result : tie.Need-add-result
 add-result c = search needs
 
--- src/counts.rt:135:79
 cast-result-3 : tie.Need-cast-result-3
 cast-result-3 c = search needs
 
--- src/counts.rt:135:13
 add-result-2 : tie.Need-add-result-2
 add-result-2 c = search needs
 
--- src/counts.rt:137:37
 enum-told : tie.Need-enum-told
 enum-told c = search needs
 
--- src/counts.rt:130:1
 returns : tie.Need-returns
 returns c = rw (c .before .before .before .before .a .given .1) refl
 
--- src/counts.rt:130:1
 returns-2 : tie.Need-returns-2
 returns-2 c = search needs
 

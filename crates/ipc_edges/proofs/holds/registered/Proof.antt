@@ -1,29 +1,30 @@
--- `ipc_edges::holds::registered` gives the numbers that its contract names: each call follows its rule, and the rules are computed. Assumes nothing.
-use mathlib.Core.Path.{refl}
+-- `ipc_edges::holds::registered`: each call follows its rule, and what the rules give is computed. Assumes nothing.
+use mathlib.Core.Path.{refl, ap, _∙_}
 use mathlib.Core.Bool.{false}
 use mathlib.Core.List.{[], _∷_}
 use borrow.Author.Needs.{needs}
-use Rattle.laws.specs.Pick.{pick}
+use lib.ListN.{getD}
+use Rattle.cap.specs.Word.{slotsOf, orVacant, readWord}
+use Rattle.ipc.specs.Answers.{registerNumber, holdersValues, holdersNumber}
+use Rattle.ipc.specs.Counts.{raised}
+use Rattle.ipc.specs.Create.{createOf}
+use Rattle.ipc.specs.Holds.{registerOf, registeredAll, registered}
+use Rattle.ipc.specs.Make.{newOf}
+use Rattle.ipc.specs.Observe.{holdersOf}
+use Rattle.ipc.specs.Opening.{openingOf, openOf, opened, holdOf, openHold}
+use Rattle.ipc.specs.declared.answers.HoldersAnswer.{HoldersAnswer}
+use Rattle.ipc.specs.declared.answers.Registering.{Registering}
 use Rattle.laws.specs.Every.{every}
+use Rattle.laws.specs.Pick.{pick}
 use Rattle.laws.specs.Place.{found, lowest, lowestFree}
 use Rattle.mint.specs.Generation.{nextGeneration}
-use Rattle.cap.specs.Word.{slotsOf, orVacant, readWord}
-use Rattle.ipc.specs.Make.{newOf}
-use Rattle.ipc.specs.Create.{createOf}
-use Rattle.ipc.specs.Opening.{openingOf, openOf, opened, holdOf, openHold}
-use Rattle.ipc.specs.Counts.{raised}
-use Rattle.ipc.specs.Holds.{registerOf, registeredAll, registered}
-use Rattle.ipc.specs.Observe.{holdersOf}
 use Rattle.ipc_edges.specs.People.{SEND}
-use Rattle.ipc_edges.proofs.Steps.{creates, held, made, registers}
+use Rattle.ipc_edges.proofs.Steps.{begun, cell, held, registers}
 use Rattle.ipc_edges.proofs.holds.registered.Statement.{statement}
 use Rattle.ipc_edges.proofs.holds.registered.Tie as tie
 
-new-requires : tie.Need-new-requires
-new-requires c κs = search needs
-
-create-channel-requires : tie.Need-create-channel-requires
-create-channel-requires c κs = search needs
+plain-requires : tie.Need-plain-requires
+plain-requires c κs = search needs
 
 slice-aggregate-register-holds : tie.Need-slice-aggregate-register-holds
 slice-aggregate-register-holds c = search needs
@@ -52,8 +53,7 @@ holders-requires-2 c κs = search needs
 returns : tie.Need-returns
 unfolding pick every found lowest lowestFree nextGeneration slotsOf orVacant readWord newOf createOf openingOf openOf opened holdOf openHold raised registerOf registeredAll registered holdersOf
 returns c =
-    let at9 = c .before in
-    let at8 = at9 .before in
+    let at8 = c .before in
     let at7 = at8 .before in
     let at6 = at7 .before in
     let at5 = at6 .before in
@@ -61,19 +61,20 @@ returns c =
     let at3 = at4 .before in
     let at2 = at3 .before in
     let at1 = at2 .before in
-    let fresh = made 1 2 1 refl (at1 .new .ensures) in
-    let channel = creates fresh false (at2 .create-channel .ensures) in
-    let holding = registers channel (0 ∷ 4295032832 ∷ 4295032833 ∷ 4294967296 ∷ 4295032832 ∷ []) (at4 .register-holds .ensures) in
-    let answer = held holding SEND (at5 .send-holders .ensures) in
-    let seen1 = held channel SEND (at6 .send-holders2 .ensures) in
-    rw (at7 .holders .ensures, at8 .registered .ensures, at9 .asked .ensures, c .holders2 .ensures, seen1, holding .same, answer)
+    let t = begun 1 2 1 false refl (at1 .plain .ensures) in
+    let holding = registers t (0 ∷ 4295032832 ∷ 4295032833 ∷ 4294967296 ∷ 4295032832 ∷ []) (at3 .register-holds .ensures) in
+    let answer = held holding SEND (at4 .send-holders .ensures) in
+    let seen1 = held t SEND (at5 .send-holders2 .ensures) in
+    cell (at6 .holders .ensures ∙ ap (λ (x : HoldersAnswer). getD (holdersValues x) 0 0) (seen1))
+    (cell (at7 .registered .ensures ∙ ap (λ (x : Registering). registerNumber (x .answer)) (holding .same))
+    (cell (at8 .asked .ensures ∙ ap (λ (x : HoldersAnswer). holdersNumber x) (answer))
+    (cell (c .holders2 .ensures ∙ ap (λ (x : HoldersAnswer). getD (holdersValues x) 0 0) (answer)) refl)))
 
 pub registered-spec : {M : Type 1} → statement M
 registered-spec =
     tie.close
     (tie.spec
-    new-requires
-    create-channel-requires
+    plain-requires
     slice-aggregate-register-holds
     register-holds-requires
     send-holders-requires

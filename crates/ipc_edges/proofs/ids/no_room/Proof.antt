@@ -1,13 +1,16 @@
--- `ipc_edges::ids::no_room` gives the numbers that its contract names: each call follows its rule, and the rules are computed. Assumes nothing.
-use mathlib.Core.Path.{refl}
+-- `ipc_edges::ids::no_room`: each call follows its rule, and what the rules give is computed. Assumes nothing.
+use mathlib.Core.Path.{refl, ap, _∙_}
 use mathlib.Core.Bool.{false, true}
 use borrow.Author.Needs.{needs}
+use Rattle.ipc.specs.Answers.{createNumber}
+use Rattle.ipc.specs.Create.{createOf}
+use Rattle.ipc.specs.Make.{newOf}
+use Rattle.ipc.specs.declared.answers.Creation.{Creation}
+use Rattle.ipc_edges.specs.Values.{markOf}
 use Rattle.laws.specs.Pick.{pick}
 use Rattle.laws.specs.Place.{found, lowest, lowestFree}
 use Rattle.mint.specs.Generation.{nextGeneration}
-use Rattle.ipc.specs.Make.{newOf}
-use Rattle.ipc.specs.Create.{createOf}
-use Rattle.ipc_edges.proofs.Steps.{creates, made}
+use Rattle.ipc_edges.proofs.Steps.{cell, creates, made}
 use Rattle.ipc_edges.proofs.ids.no_room.Statement.{statement}
 use Rattle.ipc_edges.proofs.ids.no_room.Tie as tie
 
@@ -87,7 +90,12 @@ returns c =
     let seen1 = creates none false (at8 .create-channel3 .ensures) in
     let seen2 = creates half false (at10 .create-channel4 .ensures) in
     let seen3 = creates sole true (at13 .create-channel-ephemeral2 .ensures) in
-    rw (at9 .created .ensures, at11 .created2 .ensures, at12 .created3 .ensures, at14 .created4 .ensures, at15 .created5 .ensures, c .mark .ensures, seen1 .same, seen2 .same, sole .same, seen3 .same, second .same)
+    cell (at9 .created .ensures ∙ ap (λ (x : Creation). createNumber (x .answer)) (seen1 .same))
+    (cell (at11 .created2 .ensures ∙ ap (λ (x : Creation). createNumber (x .answer)) (seen2 .same))
+    (cell (at12 .created3 .ensures ∙ ap (λ (x : Creation). createNumber (x .answer)) (sole .same))
+    (cell (at14 .created4 .ensures ∙ ap (λ (x : Creation). createNumber (x .answer)) (seen3 .same))
+    (cell (at15 .created5 .ensures ∙ ap (λ (x : Creation). createNumber (x .answer)) (second .same))
+    (cell (c .mark .ensures ∙ ap (λ (x : Creation). markOf (x .table)) (second .same)) refl)))))
 
 pub no-room-spec : {M : Type 1} → statement M
 no-room-spec =

@@ -1,10 +1,14 @@
--- `ipc_edges::ids::noted` gives the numbers that its contract names: each call follows its rule, and the rules are computed. Assumes nothing.
-use mathlib.Core.Path.{refl}
+-- `ipc_edges::ids::noted`: each call follows its rule, and what the rules give is computed. Assumes nothing.
+use mathlib.Core.Path.{refl, ap, _∙_}
 use borrow.Author.Needs.{needs}
-use Rattle.laws.specs.Pick.{pick}
-use Rattle.ipc.specs.Make.{newOf}
+use Rattle.ipc.specs.Answers.{countsNumber, noteNumber}
 use Rattle.ipc.specs.Counts.{raised}
-use Rattle.ipc_edges.proofs.Steps.{counts-are, made, notes-authority, notes-state}
+use Rattle.ipc.specs.Make.{newOf}
+use Rattle.ipc.specs.declared.answers.Noting.{Noting}
+use Rattle.ipc.specs.declared.answers.RefusalsAnswer.{RefusalsAnswer}
+use Rattle.ipc_edges.specs.Values.{countsCode}
+use Rattle.laws.specs.Pick.{pick}
+use Rattle.ipc_edges.proofs.Steps.{cell, counts-are, made, notes-authority, notes-state}
 use Rattle.ipc_edges.proofs.ids.noted.Statement.{statement}
 use Rattle.ipc_edges.proofs.ids.noted.Tie as tie
 
@@ -51,7 +55,10 @@ returns c =
     let state = notes-state authority (at3 .note-state-refusal .ensures) in
     let seen1 = counts-are state (at6 .refusals .ensures) in
     let seen2 = counts-are state (at8 .refusals2 .ensures) in
-    rw (at4 .noted .ensures, at5 .noted2 .ensures, at7 .counted .ensures, c .counts .ensures, authority .same, state .same, seen1, seen2)
+    cell (at4 .noted .ensures ∙ ap (λ (x : Noting). noteNumber (x .answer)) (authority .same))
+    (cell (at5 .noted2 .ensures ∙ ap (λ (x : Noting). noteNumber (x .answer)) (state .same))
+    (cell (at7 .counted .ensures ∙ ap (λ (x : RefusalsAnswer). countsNumber x) (seen1))
+    (cell (c .counts .ensures ∙ ap (λ (x : RefusalsAnswer). countsCode x) (seen2)) refl)))
 
 pub noted-spec : {M : Type 1} → statement M
 noted-spec =

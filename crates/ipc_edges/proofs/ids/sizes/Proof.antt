@@ -1,9 +1,12 @@
--- `ipc_edges::ids::sizes` gives the numbers that its contract names: each call follows its rule, and the rules are computed. Assumes nothing.
-use mathlib.Core.Path.{refl}
+-- `ipc_edges::ids::sizes`: each call follows its rule, and what the rules give is computed. Assumes nothing.
+use mathlib.Core.Path.{refl, ap, _∙_}
 use borrow.Author.Needs.{needs}
-use Rattle.laws.specs.Pick.{pick}
+use Rattle.ipc.specs.Answers.{newNumber}
 use Rattle.ipc.specs.Make.{newOf}
-use Rattle.ipc_edges.proofs.Steps.{made}
+use Rattle.ipc.specs.declared.answers.New.{New}
+use Rattle.ipc_edges.specs.Values.{markOf}
+use Rattle.laws.specs.Pick.{pick}
+use Rattle.ipc_edges.proofs.Steps.{cell, made}
 use Rattle.ipc_edges.proofs.ids.sizes.Statement.{statement}
 use Rattle.ipc_edges.proofs.ids.sizes.Tie as tie
 
@@ -66,7 +69,14 @@ returns c =
     let endpoints = at3 .new3 .ensures in
     let shallow = at4 .new4 .ensures in
     let deep = at5 .new5 .ensures in
-    rw (at6 .made .ensures, at7 .mark .ensures, at8 .made2 .ensures, at9 .mark2 .ensures, at10 .made3 .ensures, at11 .made4 .ensures, at12 .made5 .ensures, c .mark3 .ensures, greatest .same, mailboxes, endpoints, shallow, deep)
+    cell (at6 .made .ensures ∙ ap (λ (x : New). newNumber (x .answer)) (greatest .same))
+    (cell (at7 .mark .ensures ∙ ap (λ (x : New). markOf (x .table)) (greatest .same))
+    (cell (at8 .made2 .ensures ∙ ap (λ (x : New). newNumber (x .answer)) (mailboxes))
+    (cell (at9 .mark2 .ensures ∙ ap (λ (x : New). markOf (x .table)) (mailboxes))
+    (cell (at10 .made3 .ensures ∙ ap (λ (x : New). newNumber (x .answer)) (endpoints))
+    (cell (at11 .made4 .ensures ∙ ap (λ (x : New). newNumber (x .answer)) (shallow))
+    (cell (at12 .made5 .ensures ∙ ap (λ (x : New). newNumber (x .answer)) (deep))
+    (cell (c .mark3 .ensures ∙ ap (λ (x : New). markOf (x .table)) (deep)) refl)))))))
 
 pub sizes-spec : {M : Type 1} → statement M
 sizes-spec =

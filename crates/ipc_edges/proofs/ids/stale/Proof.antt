@@ -1,18 +1,24 @@
--- `ipc_edges::ids::stale` gives the numbers that its contract names: each call follows its rule, and the rules are computed. Assumes nothing.
-use mathlib.Core.Path.{refl}
+-- `ipc_edges::ids::stale`: each call follows its rule, and what the rules give is computed. Assumes nothing.
+use mathlib.Core.Path.{refl, ap, _∙_}
 use mathlib.Core.Bool.{false}
 use borrow.Author.Needs.{needs}
+use lib.ListN.{getD}
+use Rattle.ipc.specs.Answers.{createValues, sendNumber}
+use Rattle.ipc.specs.Counts.{raised}
+use Rattle.ipc.specs.Create.{createOf}
+use Rattle.ipc.specs.Make.{newOf}
+use Rattle.ipc.specs.Opening.{openingOf, openOf, opened, anyRightOf, openAny}
+use Rattle.ipc.specs.Revoke.{revokeOf, killed, wiped}
+use Rattle.ipc.specs.Send.{sendOf}
+use Rattle.ipc.specs.declared.answers.Creation.{Creation}
+use Rattle.ipc.specs.declared.answers.RefusalsAnswer.{RefusalsAnswer}
+use Rattle.ipc.specs.declared.answers.Sending.{Sending}
+use Rattle.ipc_edges.specs.Values.{countsCode}
 use Rattle.laws.specs.Pick.{pick}
 use Rattle.laws.specs.Place.{found, lowest, lowestFree}
 use Rattle.mint.specs.Generation.{nextGeneration}
-use Rattle.ipc.specs.Make.{newOf}
-use Rattle.ipc.specs.Create.{createOf}
-use Rattle.ipc.specs.Send.{sendOf}
-use Rattle.ipc.specs.Opening.{openingOf, openOf, opened, anyRightOf, openAny}
-use Rattle.ipc.specs.Counts.{raised}
-use Rattle.ipc.specs.Revoke.{revokeOf, killed, wiped}
 use Rattle.ipc_edges.specs.People.{LETTER, NEW·SEND, SEND}
-use Rattle.ipc_edges.proofs.Steps.{counts-are, creates, made, revokes, sends}
+use Rattle.ipc_edges.proofs.Steps.{cell, counts-are, creates, made, revokes, sends}
 use Rattle.ipc_edges.proofs.ids.stale.Statement.{statement}
 use Rattle.ipc_edges.proofs.ids.stale.Tie as tie
 
@@ -81,7 +87,13 @@ returns c =
     let old = sends next SEND LETTER (at5 .send .ensures) in
     let newer = sends old NEW·SEND LETTER (at6 .send2 .ensures) in
     let seen1 = counts-are old (at12 .refusals .ensures) in
-    rw (at7 .send-id .ensures, at8 .recv-id .ensures, at9 .send-id2 .ensures, at10 .recv-id2 .ensures, at11 .sent .ensures, at13 .counts .ensures, c .sent2 .ensures, channel .same, next .same, old .same, seen1, newer .same)
+    cell (at7 .send-id .ensures ∙ ap (λ (x : Creation). getD (createValues (x .answer)) 0 0) (channel .same))
+    (cell (at8 .recv-id .ensures ∙ ap (λ (x : Creation). getD (createValues (x .answer)) 1 0) (channel .same))
+    (cell (at9 .send-id2 .ensures ∙ ap (λ (x : Creation). getD (createValues (x .answer)) 0 0) (next .same))
+    (cell (at10 .recv-id2 .ensures ∙ ap (λ (x : Creation). getD (createValues (x .answer)) 1 0) (next .same))
+    (cell (at11 .sent .ensures ∙ ap (λ (x : Sending). sendNumber (x .answer)) (old .same))
+    (cell (at13 .counts .ensures ∙ ap (λ (x : RefusalsAnswer). countsCode x) (seen1))
+    (cell (c .sent2 .ensures ∙ ap (λ (x : Sending). sendNumber (x .answer)) (newer .same)) refl))))))
 
 pub stale-spec : {M : Type 1} → statement M
 stale-spec =

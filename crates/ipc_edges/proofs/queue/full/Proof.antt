@@ -1,26 +1,28 @@
--- `ipc_edges::queue::full` gives the numbers that its contract names: each call follows its rule, and the rules are computed. Assumes nothing.
-use mathlib.Core.Path.{refl}
+-- `ipc_edges::queue::full`: each call follows its rule, and what the rules give is computed. Assumes nothing.
+use mathlib.Core.Path.{refl, ap, _∙_}
 use mathlib.Core.Bool.{false}
 use borrow.Author.Needs.{needs}
+use Rattle.ipc.specs.Answers.{recvNumber, sendNumber}
+use Rattle.ipc.specs.Counts.{raised}
+use Rattle.ipc.specs.Create.{createOf}
+use Rattle.ipc.specs.Make.{newOf}
+use Rattle.ipc.specs.Opening.{openingOf, openOf, opened}
+use Rattle.ipc.specs.Receive.{recvOf}
+use Rattle.ipc.specs.Send.{sendOf}
+use Rattle.ipc.specs.declared.answers.Receiving.{Receiving}
+use Rattle.ipc.specs.declared.answers.RefusalsAnswer.{RefusalsAnswer}
+use Rattle.ipc.specs.declared.answers.Sending.{Sending}
+use Rattle.ipc_edges.specs.Values.{countsCode, recvCode}
 use Rattle.laws.specs.Pick.{pick}
 use Rattle.laws.specs.Place.{found, lowest, lowestFree}
 use Rattle.mint.specs.Generation.{nextGeneration}
-use Rattle.ipc.specs.Make.{newOf}
-use Rattle.ipc.specs.Create.{createOf}
-use Rattle.ipc.specs.Send.{sendOf}
-use Rattle.ipc.specs.Receive.{recvOf}
-use Rattle.ipc.specs.Opening.{openingOf, openOf, opened}
-use Rattle.ipc.specs.Counts.{raised}
 use Rattle.ipc_edges.specs.People.{LETTER, RECV, REPLY, SEND}
-use Rattle.ipc_edges.proofs.Steps.{counts-are, creates, made, receives, sends}
+use Rattle.ipc_edges.proofs.Steps.{begun, cell, counts-are, receives, sends}
 use Rattle.ipc_edges.proofs.queue.full.Statement.{statement}
 use Rattle.ipc_edges.proofs.queue.full.Tie as tie
 
-new-requires : tie.Need-new-requires
-new-requires c κs = search needs
-
-create-channel-requires : tie.Need-create-channel-requires
-create-channel-requires c κs = search needs
+plain-requires : tie.Need-plain-requires
+plain-requires c κs = search needs
 
 send-requires : tie.Need-send-requires
 send-requires c κs = search needs
@@ -52,8 +54,7 @@ message-requires c κs = search needs
 returns : tie.Need-returns
 unfolding pick found lowest lowestFree nextGeneration newOf createOf sendOf recvOf openingOf openOf opened raised
 returns c =
-    let at10 = c .before in
-    let at9 = at10 .before in
+    let at9 = c .before in
     let at8 = at9 .before in
     let at7 = at8 .before in
     let at6 = at7 .before in
@@ -62,20 +63,22 @@ returns c =
     let at3 = at4 .before in
     let at2 = at3 .before in
     let at1 = at2 .before in
-    let fresh = made 1 2 1 refl (at1 .new .ensures) in
-    let channel = creates fresh false (at2 .create-channel .ensures) in
-    let first = sends channel SEND LETTER (at3 .send .ensures) in
-    let second = sends first SEND REPLY (at4 .send2 .ensures) in
-    let got = receives second RECV (at5 .try-recv .ensures) in
-    let seen1 = counts-are second (at8 .refusals .ensures) in
-    rw (at6 .sent .ensures, at7 .sent2 .ensures, at9 .counts .ensures, at10 .received .ensures, c .message .ensures, first .same, second .same, seen1, got .same)
+    let t = begun 1 2 1 false refl (at1 .plain .ensures) in
+    let first = sends t SEND LETTER (at2 .send .ensures) in
+    let second = sends first SEND REPLY (at3 .send2 .ensures) in
+    let got = receives second RECV (at4 .try-recv .ensures) in
+    let seen1 = counts-are second (at7 .refusals .ensures) in
+    cell (at5 .sent .ensures ∙ ap (λ (x : Sending). sendNumber (x .answer)) (first .same))
+    (cell (at6 .sent2 .ensures ∙ ap (λ (x : Sending). sendNumber (x .answer)) (second .same))
+    (cell (at8 .counts .ensures ∙ ap (λ (x : RefusalsAnswer). countsCode x) (seen1))
+    (cell (at9 .received .ensures ∙ ap (λ (x : Receiving). recvNumber (x .answer)) (got .same))
+    (cell (c .message .ensures ∙ ap (λ (x : Receiving). recvCode (x .answer)) (got .same)) refl))))
 
 pub full-spec : {M : Type 1} → statement M
 full-spec =
     tie.close
     (tie.spec
-    new-requires
-    create-channel-requires
+    plain-requires
     send-requires
     send-requires-2
     try-recv-requires

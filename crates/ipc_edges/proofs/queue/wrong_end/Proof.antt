@@ -1,27 +1,32 @@
--- `ipc_edges::queue::wrong_end` gives the numbers that its contract names: each call follows its rule, and the rules are computed. Assumes nothing.
-use mathlib.Core.Path.{refl}
+-- `ipc_edges::queue::wrong_end`: each call follows its rule, and what the rules give is computed. Assumes nothing.
+use mathlib.Core.Path.{refl, ap, _∙_}
 use mathlib.Core.Bool.{false}
 use borrow.Author.Needs.{needs}
+use Rattle.ipc.specs.Answers.{recvNumber, sendNumber, queuedNumber, holdersNumber, parkNumber}
+use Rattle.ipc.specs.Counts.{raised}
+use Rattle.ipc.specs.Create.{createOf}
+use Rattle.ipc.specs.Make.{newOf}
+use Rattle.ipc.specs.Observe.{queuedOf, holdersOf}
+use Rattle.ipc.specs.Opening.{openingOf, openOf, opened, eitherOf, openEither}
+use Rattle.ipc.specs.Receive.{recvOf, parkOf}
+use Rattle.ipc.specs.Send.{sendOf}
+use Rattle.ipc.specs.declared.answers.HoldersAnswer.{HoldersAnswer}
+use Rattle.ipc.specs.declared.answers.Parking.{Parking}
+use Rattle.ipc.specs.declared.answers.QueuedAnswer.{QueuedAnswer}
+use Rattle.ipc.specs.declared.answers.Receiving.{Receiving}
+use Rattle.ipc.specs.declared.answers.RefusalsAnswer.{RefusalsAnswer}
+use Rattle.ipc.specs.declared.answers.Sending.{Sending}
+use Rattle.ipc_edges.specs.Values.{countsCode}
 use Rattle.laws.specs.Pick.{pick}
 use Rattle.laws.specs.Place.{found, lowest, lowestFree}
 use Rattle.mint.specs.Generation.{nextGeneration}
-use Rattle.ipc.specs.Make.{newOf}
-use Rattle.ipc.specs.Create.{createOf}
-use Rattle.ipc.specs.Send.{sendOf}
-use Rattle.ipc.specs.Receive.{recvOf, parkOf}
-use Rattle.ipc.specs.Opening.{openingOf, openOf, opened, eitherOf, openEither}
-use Rattle.ipc.specs.Counts.{raised}
-use Rattle.ipc.specs.Observe.{queuedOf, holdersOf}
 use Rattle.ipc_edges.specs.People.{ANN, LETTER, NEW·SEND, RECV, SEND}
-use Rattle.ipc_edges.proofs.Steps.{counts-are, creates, held, made, parks, queues, receives, sends}
+use Rattle.ipc_edges.proofs.Steps.{begun, cell, counts-are, held, parks, queues, receives, sends}
 use Rattle.ipc_edges.proofs.queue.wrong_end.Statement.{statement}
 use Rattle.ipc_edges.proofs.queue.wrong_end.Tie as tie
 
-new-requires : tie.Need-new-requires
-new-requires c κs = search needs
-
-create-channel-requires : tie.Need-create-channel-requires
-create-channel-requires c κs = search needs
+plain-requires : tie.Need-plain-requires
+plain-requires c κs = search needs
 
 send-requires : tie.Need-send-requires
 send-requires c κs = search needs
@@ -62,8 +67,7 @@ counts-requires c κs = search needs
 returns : tie.Need-returns
 unfolding pick found lowest lowestFree nextGeneration newOf createOf sendOf recvOf parkOf openingOf openOf opened eitherOf openEither raised queuedOf holdersOf
 returns c =
-    let at13 = c .before in
-    let at12 = at13 .before in
+    let at12 = c .before in
     let at11 = at12 .before in
     let at10 = at11 .before in
     let at9 = at10 .before in
@@ -75,22 +79,25 @@ returns c =
     let at3 = at4 .before in
     let at2 = at3 .before in
     let at1 = at2 .before in
-    let fresh = made 1 2 1 refl (at1 .new .ensures) in
-    let channel = creates fresh false (at2 .create-channel .ensures) in
-    let sent = sends channel RECV LETTER (at3 .send .ensures) in
-    let got = receives sent SEND (at4 .try-recv .ensures) in
-    let parked = parks got SEND ANN (at5 .park .ensures) in
-    let seen1 = held parked RECV (at9 .send-holders .ensures) in
-    let seen2 = queues parked NEW·SEND (at11 .queued .ensures) in
-    let seen3 = counts-are parked (at13 .refusals .ensures) in
-    rw (at6 .sent .ensures, at7 .received .ensures, at8 .parked .ensures, at10 .asked .ensures, at12 .queued2 .ensures, c .counts .ensures, sent .same, got .same, parked .same, seen1, seen2, seen3)
+    let t = begun 1 2 1 false refl (at1 .plain .ensures) in
+    let sent = sends t RECV LETTER (at2 .send .ensures) in
+    let got = receives sent SEND (at3 .try-recv .ensures) in
+    let parked = parks got SEND ANN (at4 .park .ensures) in
+    let seen1 = held parked RECV (at8 .send-holders .ensures) in
+    let seen2 = queues parked NEW·SEND (at10 .queued .ensures) in
+    let seen3 = counts-are parked (at12 .refusals .ensures) in
+    cell (at5 .sent .ensures ∙ ap (λ (x : Sending). sendNumber (x .answer)) (sent .same))
+    (cell (at6 .received .ensures ∙ ap (λ (x : Receiving). recvNumber (x .answer)) (got .same))
+    (cell (at7 .parked .ensures ∙ ap (λ (x : Parking). parkNumber (x .answer)) (parked .same))
+    (cell (at9 .asked .ensures ∙ ap (λ (x : HoldersAnswer). holdersNumber x) (seen1))
+    (cell (at11 .queued2 .ensures ∙ ap (λ (x : QueuedAnswer). queuedNumber x) (seen2))
+    (cell (c .counts .ensures ∙ ap (λ (x : RefusalsAnswer). countsCode x) (seen3)) refl)))))
 
 pub wrong-end-spec : {M : Type 1} → statement M
 wrong-end-spec =
     tie.close
     (tie.spec
-    new-requires
-    create-channel-requires
+    plain-requires
     send-requires
     try-recv-requires
     park-requires

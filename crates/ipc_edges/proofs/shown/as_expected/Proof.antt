@@ -1,15 +1,12 @@
 -- `ipc_edges::shown::as_expected` tries each place of two equal lists. The measure is what is left of them. Assumes nothing.
 use mathlib.Core.Path.{_≡_, ap}
 use Prim.Native.Nat.{ℕ, _≤_, _<_, _-_}
-use native.Mathlib.Omega.{arith}
 use borrow.Author.Needs.{needs}
 use borrow.Author.Tests.{eq-eqb}
 use lib.ListN.{length, getD}
 use mathlib.Core.List.{List}
 use Rattle.ipc_edges.proofs.shown.as_expected.Statement.{statement}
 use Rattle.ipc_edges.proofs.shown.as_expected.Tie as tie
-use Rattle.ipc_edges.proofs.shown.as_expected.Reads as reads
-use Rattle.ipc_edges.proofs.shown.as_expected.Lts as lts
 
 abbrev Inv-loop : tie.InvT-loop
 Inv-loop first got want i₀ i = (i ≤ length want) × (length got ≡ length want) × (first < 1000) × (got ≡ want)

@@ -1,38 +1,30 @@
+-- `ipc_edges::values::waiter_code` shows a waiter as its contract says. Assumes nothing.
 use mathlib.Core.Path.{refl}
 use Rattle.laws.specs.Pick.{pick}
 use Rattle.ipc_edges.specs.Values.{waiterCode}
 use borrow.Author.Needs.{needs}
 use Rattle.ipc_edges.proofs.values.waiter_code.Statement.{statement}
 use Rattle.ipc_edges.proofs.values.waiter_code.Tie as tie
-use Rattle.ipc_edges.proofs.values.waiter_code.Reads as reads
-use Rattle.ipc_edges.proofs.values.waiter_code.Lts as lts
 
--- src/values.rt:30:27
 cast-result : tie.Need-cast-result
 cast-result c = search needs
 
--- src/values.rt:30:26
 mul-result : tie.Need-mul-result
 mul-result c = search needs
 
--- src/values.rt:30:16
 add-result : tie.Need-add-result
 add-result c = search needs
 
--- src/values.rt:30:62
 cast-result-2 : tie.Need-cast-result-2
 cast-result-2 c = search needs
 
--- src/values.rt:30:16
 add-result-2 : tie.Need-add-result-2
 add-result-2 c = search needs
 
--- src/values.rt:30:9
 returns : tie.Need-returns
 unfolding waiterCode pick
 returns c = rw (c .before .before .before .if1 .taken) refl
 
--- src/values.rt:25:1
 returns-2 : tie.Need-returns-2
 unfolding waiterCode pick
 returns-2 c = rw (c .if1 .left) refl

@@ -1,27 +1,28 @@
--- `ipc_edges::waits::busy` gives the numbers that its contract names: each call follows its rule, and the rules are computed. Assumes nothing.
-use mathlib.Core.Path.{refl}
+-- `ipc_edges::waits::busy`: each call follows its rule, and what the rules give is computed. Assumes nothing.
+use mathlib.Core.Path.{refl, ap, _∙_}
 use mathlib.Core.Bool.{false}
 use borrow.Author.Needs.{needs}
+use Rattle.ipc.specs.Answers.{parkNumber}
+use Rattle.ipc.specs.Counts.{raised}
+use Rattle.ipc.specs.Create.{createOf}
+use Rattle.ipc.specs.Make.{newOf}
+use Rattle.ipc.specs.Opening.{openingOf, openOf, opened}
+use Rattle.ipc.specs.Receive.{parkOf}
+use Rattle.ipc.specs.Send.{sendOf}
+use Rattle.ipc.specs.declared.answers.Parking.{Parking}
+use Rattle.ipc.specs.declared.answers.RefusalsAnswer.{RefusalsAnswer}
+use Rattle.ipc.specs.declared.answers.Sending.{Sending}
+use Rattle.ipc_edges.specs.Values.{waiterCode, sendCode, countsCode}
 use Rattle.laws.specs.Pick.{pick}
 use Rattle.laws.specs.Place.{found, lowest, lowestFree}
 use Rattle.mint.specs.Generation.{nextGeneration}
-use Rattle.ipc.specs.Make.{newOf}
-use Rattle.ipc.specs.Create.{createOf}
-use Rattle.ipc.specs.Send.{sendOf}
-use Rattle.ipc.specs.Receive.{parkOf}
-use Rattle.ipc.specs.Opening.{openingOf, openOf, opened}
-use Rattle.ipc.specs.Counts.{raised}
-use Rattle.ipc_edges.specs.Values.{waiterCode}
 use Rattle.ipc_edges.specs.People.{ANN, BEN, LETTER, RECV, SEND}
-use Rattle.ipc_edges.proofs.Steps.{counts-are, creates, made, parks, sends}
+use Rattle.ipc_edges.proofs.Steps.{begun, cell, counts-are, parks, sends}
 use Rattle.ipc_edges.proofs.waits.busy.Statement.{statement}
 use Rattle.ipc_edges.proofs.waits.busy.Tie as tie
 
-new-requires : tie.Need-new-requires
-new-requires c κs = search needs
-
-create-channel-requires : tie.Need-create-channel-requires
-create-channel-requires c κs = search needs
+plain-requires : tie.Need-plain-requires
+plain-requires c κs = search needs
 
 park-requires : tie.Need-park-requires
 park-requires c κs = search needs
@@ -56,8 +57,7 @@ woken-requires c κs = search needs
 returns : tie.Need-returns
 unfolding pick found lowest lowestFree nextGeneration newOf createOf sendOf parkOf openingOf openOf opened raised waiterCode
 returns c =
-    let at11 = c .before in
-    let at10 = at11 .before in
+    let at10 = c .before in
     let at9 = at10 .before in
     let at8 = at9 .before in
     let at7 = at8 .before in
@@ -67,21 +67,23 @@ returns c =
     let at3 = at4 .before in
     let at2 = at3 .before in
     let at1 = at2 .before in
-    let fresh = made 1 2 1 refl (at1 .new .ensures) in
-    let channel = creates fresh false (at2 .create-channel .ensures) in
-    let parked = parks channel RECV ANN (at3 .park .ensures) in
-    let other = parks parked RECV BEN (at4 .park2 .ensures) in
-    let again = parks other RECV ANN (at5 .park3 .ensures) in
-    let sent = sends again SEND LETTER (at6 .send .ensures) in
-    let seen1 = counts-are other (at9 .refusals .ensures) in
-    rw (at7 .parked .ensures, at8 .parked2 .ensures, at10 .counts .ensures, at11 .parked3 .ensures, c .woken .ensures, parked .same, other .same, seen1, again .same, sent .same)
+    let t = begun 1 2 1 false refl (at1 .plain .ensures) in
+    let parked = parks t RECV ANN (at2 .park .ensures) in
+    let other = parks parked RECV BEN (at3 .park2 .ensures) in
+    let again = parks other RECV ANN (at4 .park3 .ensures) in
+    let sent = sends again SEND LETTER (at5 .send .ensures) in
+    let seen1 = counts-are other (at8 .refusals .ensures) in
+    cell (at6 .parked .ensures ∙ ap (λ (x : Parking). parkNumber (x .answer)) (parked .same))
+    (cell (at7 .parked2 .ensures ∙ ap (λ (x : Parking). parkNumber (x .answer)) (other .same))
+    (cell (at9 .counts .ensures ∙ ap (λ (x : RefusalsAnswer). countsCode x) (seen1))
+    (cell (at10 .parked3 .ensures ∙ ap (λ (x : Parking). parkNumber (x .answer)) (again .same))
+    (cell (c .woken .ensures ∙ ap (λ (x : Sending). sendCode (x .answer)) (sent .same)) refl))))
 
 pub busy-spec : {M : Type 1} → statement M
 busy-spec =
     tie.close
     (tie.spec
-    new-requires
-    create-channel-requires
+    plain-requires
     park-requires
     park-requires-2
     park-requires-3

@@ -1,26 +1,27 @@
--- `ipc_edges::waits::cancelled` gives the numbers that its contract names: each call follows its rule, and the rules are computed. Assumes nothing.
-use mathlib.Core.Path.{refl}
+-- `ipc_edges::waits::cancelled`: each call follows its rule, and what the rules give is computed. Assumes nothing.
+use mathlib.Core.Path.{refl, ap, _∙_}
 use mathlib.Core.Bool.{true}
 use borrow.Author.Needs.{needs}
+use Rattle.ipc.specs.Answers.{parkNumber}
+use Rattle.ipc.specs.Counts.{raised}
+use Rattle.ipc.specs.Create.{createOf}
+use Rattle.ipc.specs.Make.{newOf}
+use Rattle.ipc.specs.Opening.{openingOf, openOf, opened}
+use Rattle.ipc.specs.Receive.{parkOf}
+use Rattle.ipc.specs.Send.{sendOf}
+use Rattle.ipc.specs.declared.answers.Parking.{Parking}
+use Rattle.ipc.specs.declared.answers.RefusalsAnswer.{RefusalsAnswer}
+use Rattle.ipc_edges.specs.Values.{countsCode, parkCode}
 use Rattle.laws.specs.Pick.{pick}
 use Rattle.laws.specs.Place.{found, lowest, lowestFree}
 use Rattle.mint.specs.Generation.{nextGeneration}
-use Rattle.ipc.specs.Make.{newOf}
-use Rattle.ipc.specs.Create.{createOf}
-use Rattle.ipc.specs.Send.{sendOf}
-use Rattle.ipc.specs.Receive.{parkOf}
-use Rattle.ipc.specs.Opening.{openingOf, openOf, opened}
-use Rattle.ipc.specs.Counts.{raised}
 use Rattle.ipc_edges.specs.People.{ANN, LETTER, RECV, SEND}
-use Rattle.ipc_edges.proofs.Steps.{counts-are, creates, made, parks, sends}
+use Rattle.ipc_edges.proofs.Steps.{begun, cell, counts-are, parks, sends}
 use Rattle.ipc_edges.proofs.waits.cancelled.Statement.{statement}
 use Rattle.ipc_edges.proofs.waits.cancelled.Tie as tie
 
-new-requires : tie.Need-new-requires
-new-requires c κs = search needs
-
-create-channel-ephemeral-requires : tie.Need-create-channel-ephemeral-requires
-create-channel-ephemeral-requires c κs = search needs
+ephemeral-requires : tie.Need-ephemeral-requires
+ephemeral-requires c κs = search needs
 
 park-requires : tie.Need-park-requires
 park-requires c κs = search needs
@@ -55,8 +56,7 @@ counts-requires c κs = search needs
 returns : tie.Need-returns
 unfolding pick found lowest lowestFree nextGeneration newOf createOf sendOf parkOf openingOf openOf opened raised
 returns c =
-    let at11 = c .before in
-    let at10 = at11 .before in
+    let at10 = c .before in
     let at9 = at10 .before in
     let at8 = at9 .before in
     let at7 = at8 .before in
@@ -66,21 +66,23 @@ returns c =
     let at3 = at4 .before in
     let at2 = at3 .before in
     let at1 = at2 .before in
-    let fresh = made 1 2 1 refl (at1 .new .ensures) in
-    let channel = creates fresh true (at2 .create-channel-ephemeral .ensures) in
-    let before = parks channel RECV ANN (at3 .park .ensures) in
-    let sent = sends before SEND LETTER (at4 .send .ensures) in
-    let parked = parks sent RECV ANN (at5 .park2 .ensures) in
-    let after = parks parked RECV ANN (at6 .park3 .ensures) in
-    let seen1 = counts-are after (at11 .refusals .ensures) in
-    rw (at7 .parked .ensures, at8 .parked2 .ensures, at9 .given .ensures, at10 .parked3 .ensures, c .counts .ensures, before .same, parked .same, after .same, seen1)
+    let t = begun 1 2 1 true refl (at1 .ephemeral .ensures) in
+    let before = parks t RECV ANN (at2 .park .ensures) in
+    let sent = sends before SEND LETTER (at3 .send .ensures) in
+    let parked = parks sent RECV ANN (at4 .park2 .ensures) in
+    let after = parks parked RECV ANN (at5 .park3 .ensures) in
+    let seen1 = counts-are after (at10 .refusals .ensures) in
+    cell (at6 .parked .ensures ∙ ap (λ (x : Parking). parkNumber (x .answer)) (before .same))
+    (cell (at7 .parked2 .ensures ∙ ap (λ (x : Parking). parkNumber (x .answer)) (parked .same))
+    (cell (at8 .given .ensures ∙ ap (λ (x : Parking). parkCode (x .answer)) (parked .same))
+    (cell (at9 .parked3 .ensures ∙ ap (λ (x : Parking). parkNumber (x .answer)) (after .same))
+    (cell (c .counts .ensures ∙ ap (λ (x : RefusalsAnswer). countsCode x) (seen1)) refl))))
 
 pub cancelled-spec : {M : Type 1} → statement M
 cancelled-spec =
     tie.close
     (tie.spec
-    new-requires
-    create-channel-ephemeral-requires
+    ephemeral-requires
     park-requires
     send-requires
     park-requires-2

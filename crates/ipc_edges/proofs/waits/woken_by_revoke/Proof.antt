@@ -1,27 +1,26 @@
--- `ipc_edges::waits::woken_by_revoke` gives the numbers that its contract names: each call follows its rule, and the rules are computed. Assumes nothing.
-use mathlib.Core.Path.{refl}
+-- `ipc_edges::waits::woken_by_revoke`: each call follows its rule, and what the rules give is computed. Assumes nothing.
+use mathlib.Core.Path.{refl, ap, _∙_}
 use mathlib.Core.Bool.{false}
 use borrow.Author.Needs.{needs}
+use Rattle.ipc.specs.Answers.{revokeNumber}
+use Rattle.ipc.specs.Counts.{raised}
+use Rattle.ipc.specs.Create.{createOf}
+use Rattle.ipc.specs.Make.{newOf}
+use Rattle.ipc.specs.Opening.{openingOf, openOf, opened, anyRightOf, openAny}
+use Rattle.ipc.specs.Receive.{parkOf}
+use Rattle.ipc.specs.Revoke.{revokeOf, killed, wiped}
+use Rattle.ipc.specs.declared.answers.Revoking.{Revoking}
+use Rattle.ipc_edges.specs.Values.{waiterCode, revokeCode}
 use Rattle.laws.specs.Pick.{pick}
 use Rattle.laws.specs.Place.{found, lowest, lowestFree}
 use Rattle.mint.specs.Generation.{nextGeneration}
-use Rattle.ipc.specs.Make.{newOf}
-use Rattle.ipc.specs.Create.{createOf}
-use Rattle.ipc.specs.Receive.{parkOf}
-use Rattle.ipc.specs.Opening.{openingOf, openOf, opened, anyRightOf, openAny}
-use Rattle.ipc.specs.Counts.{raised}
-use Rattle.ipc.specs.Revoke.{revokeOf, killed, wiped}
-use Rattle.ipc_edges.specs.Values.{waiterCode}
 use Rattle.ipc_edges.specs.People.{ANN, RECV, SEND}
-use Rattle.ipc_edges.proofs.Steps.{creates, made, parks, revokes}
+use Rattle.ipc_edges.proofs.Steps.{begun, cell, parks, revokes}
 use Rattle.ipc_edges.proofs.waits.woken_by_revoke.Statement.{statement}
 use Rattle.ipc_edges.proofs.waits.woken_by_revoke.Tie as tie
 
-new-requires : tie.Need-new-requires
-new-requires c κs = search needs
-
-create-channel-requires : tie.Need-create-channel-requires
-create-channel-requires c κs = search needs
+plain-requires : tie.Need-plain-requires
+plain-requires c κs = search needs
 
 park-requires : tie.Need-park-requires
 park-requires c κs = search needs
@@ -47,27 +46,27 @@ woken-requires-2 c κs = search needs
 returns : tie.Need-returns
 unfolding pick found lowest lowestFree nextGeneration newOf createOf parkOf openingOf openOf opened anyRightOf openAny raised revokeOf killed wiped waiterCode
 returns c =
-    let at8 = c .before in
-    let at7 = at8 .before in
+    let at7 = c .before in
     let at6 = at7 .before in
     let at5 = at6 .before in
     let at4 = at5 .before in
     let at3 = at4 .before in
     let at2 = at3 .before in
     let at1 = at2 .before in
-    let fresh = made 1 2 1 refl (at1 .new .ensures) in
-    let channel = creates fresh false (at2 .create-channel .ensures) in
-    let parked = parks channel RECV ANN (at3 .park .ensures) in
-    let ended = revokes parked SEND (at4 .revoke-channel .ensures) in
-    let quiet = revokes channel SEND (at5 .revoke-channel2 .ensures) in
-    rw (at6 .revoked .ensures, at7 .woken .ensures, at8 .revoked2 .ensures, c .woken2 .ensures, ended .same, quiet .same)
+    let t = begun 1 2 1 false refl (at1 .plain .ensures) in
+    let parked = parks t RECV ANN (at2 .park .ensures) in
+    let ended = revokes parked SEND (at3 .revoke-channel .ensures) in
+    let quiet = revokes t SEND (at4 .revoke-channel2 .ensures) in
+    cell (at5 .revoked .ensures ∙ ap (λ (x : Revoking). revokeNumber (x .answer)) (ended .same))
+    (cell (at6 .woken .ensures ∙ ap (λ (x : Revoking). revokeCode (x .answer)) (ended .same))
+    (cell (at7 .revoked2 .ensures ∙ ap (λ (x : Revoking). revokeNumber (x .answer)) (quiet .same))
+    (cell (c .woken2 .ensures ∙ ap (λ (x : Revoking). revokeCode (x .answer)) (quiet .same)) refl)))
 
 pub woken-by-revoke-spec : {M : Type 1} → statement M
 woken-by-revoke-spec =
     tie.close
     (tie.spec
-    new-requires
-    create-channel-requires
+    plain-requires
     park-requires
     revoke-channel-requires
     revoke-channel-requires-2
