@@ -1,0 +1,116 @@
+-- Document 01, "The operation log", operations 0 to 6, 9 to 12 and 27: the calls on the channel table.
+use mathlib.Core.Bool.{not}
+use mathlib.Core.List.{List, []}
+use Prim.Native.Nat.{ℕ}
+use lib.Dec.{eqb}
+use Rattle.laws.specs.Pick.{pick}
+use Rattle.laws.specs.Refusals as no
+use Rattle.capslots.specs.Table as rows
+use Rattle.irqcap.specs.Table as irqs
+use Rattle.taskcap.specs.Table as tasks
+use Rattle.ipc.specs.Answers.{createNumber, createValues, sendNumber, sendValues, recvNumber, recvValues, parkNumber, parkValues, queuedNumber, queuedValues, holdersNumber, holdersValues, revokeNumber, revokeValues, clearNumber, clearValues, noteNumber, countsNumber, countsValues}
+use Rattle.ipc.specs.Counts.{noteAuthorityOf, noteStateOf}
+use Rattle.ipc.specs.Create.{createOf}
+use Rattle.ipc.specs.Make.{inRange, sizesOf, freshOf}
+use Rattle.ipc.specs.Observe.{queuedOf, holdersOf, refusalsOf}
+use Rattle.ipc.specs.Receive.{recvOf, parkOf}
+use Rattle.ipc.specs.Revoke.{revokeOf}
+use Rattle.ipc.specs.Send.{sendOf}
+use Rattle.ipc.specs.Waiters.{clearOf}
+use Rattle.ipc.specs.declared.answers.Creation.{Creation}
+use Rattle.ipc.specs.declared.answers.Sending.{Sending}
+use Rattle.ipc.specs.declared.answers.Receiving.{Receiving}
+use Rattle.ipc.specs.declared.answers.Parking.{Parking}
+use Rattle.ipc.specs.declared.answers.Revoking.{Revoking}
+use Rattle.ipc.specs.declared.answers.Clearing.{Clearing}
+use Rattle.ipc.specs.declared.answers.Noting.{Noting}
+use Rattle.ipc.specs.declared.answers.QueuedAnswer.{QueuedAnswer}
+use Rattle.ipc.specs.declared.answers.HoldersAnswer.{HoldersAnswer}
+use Rattle.logread.specs.Little.{byteAt}
+use Rattle.operations.specs.Done.{Done, withChannels}
+use Rattle.operations.specs.Operands.{idAt, taskAt, messageAt}
+use Rattle.operations.specs.declared.Tables.{Tables}
+
+-- ---- what a call's answer and table come to
+abbrev pub created : Tables → Creation → Done
+created t r = record { number = createNumber (r .answer); values = createValues (r .answer); tables = withChannels t (r .table) }
+
+abbrev pub sent : Tables → Sending → Done
+sent t r = record { number = sendNumber (r .answer); values = sendValues (r .answer); tables = withChannels t (r .table) }
+
+abbrev pub received : Tables → Receiving → Done
+received t r = record { number = recvNumber (r .answer); values = recvValues (r .answer); tables = withChannels t (r .table) }
+
+abbrev pub parked : Tables → Parking → Done
+parked t r = record { number = parkNumber (r .answer); values = parkValues (r .answer); tables = withChannels t (r .table) }
+
+abbrev pub queued : Tables → QueuedAnswer → Done
+queued t a = record { number = queuedNumber a; values = queuedValues a; tables = t }
+
+abbrev pub revoked : Tables → Revoking → Done
+revoked t r = record { number = revokeNumber (r .answer); values = revokeValues (r .answer); tables = withChannels t (r .table) }
+
+abbrev pub holders : Tables → HoldersAnswer → Done
+holders t a = record { number = holdersNumber a; values = holdersValues a; tables = t }
+
+abbrev pub cleared : Tables → Clearing → Done
+cleared t r = record { number = clearNumber (r .answer); values = clearValues (r .answer); tables = withChannels t (r .table) }
+
+abbrev pub noted : Tables → Noting → Done
+noted t r = record { number = noteNumber (r .answer); values = []; tables = withChannels t (r .table) }
+
+-- every table fresh, the channel table of the sizes given
+abbrev pub allFresh : ℕ → ℕ → ℕ → Tables
+allFresh m e d = record { channels = freshOf (sizesOf m e d); rows = rows.freshTable; tasks = tasks.freshTable; irqs = irqs.freshTable }
+
+-- ---- the operations
+-- 0, new (m, e, d): every table fresh, or all kept as they were on 20
+unfoldable pub newDone : List ℕ → Tables → Done
+newDone log t =
+    pick (inRange (sizesOf (byteAt log 3) (byteAt log 4) (byteAt log 5)))
+    (record { number = no.accepted; values = []; tables = allFresh (byteAt log 3) (byteAt log 4) (byteAt log 5) })
+    (record { number = no.badSizes; values = []; tables = t })
+
+-- 1, create (ephemeral where the flag is not 0)
+unfoldable pub createDone : List ℕ → Tables → Done
+createDone log t = created t (createOf (t .channels) (not (eqb (byteAt log 3) 0)))
+
+-- 2, send (id, tag, a, b)
+unfoldable pub sendDone : List ℕ → Tables → Done
+sendDone log t = sent t (sendOf (t .channels) (idAt log 3) (messageAt log 7))
+
+-- 3, receive (id)
+unfoldable pub receiveDone : List ℕ → Tables → Done
+receiveDone log t = received t (recvOf (t .channels) (idAt log 3))
+
+-- 4, park (id, task)
+unfoldable pub parkDone : List ℕ → Tables → Done
+parkDone log t = parked t (parkOf (t .channels) (idAt log 3) (taskAt log 7))
+
+-- 5, queued (id)
+unfoldable pub queuedDone : List ℕ → Tables → Done
+queuedDone log t = queued t (queuedOf (t .channels) (idAt log 3))
+
+-- 6, revoke (id)
+unfoldable pub revokeDone : List ℕ → Tables → Done
+revokeDone log t = revoked t (revokeOf (t .channels) (idAt log 3))
+
+-- 9, holders (id)
+unfoldable pub holdersDone : List ℕ → Tables → Done
+holdersDone log t = holders t (holdersOf (t .channels) (idAt log 3))
+
+-- 10, clear waiter (task)
+unfoldable pub clearDone : List ℕ → Tables → Done
+clearDone log t = cleared t (clearOf (t .channels) (taskAt log 3))
+
+-- 11, note authority
+unfoldable pub noteAuthorityDone : Tables → Done
+noteAuthorityDone t = noted t (noteAuthorityOf (t .channels))
+
+-- 12, note state
+unfoldable pub noteStateDone : Tables → Done
+noteStateDone t = noted t (noteStateOf (t .channels))
+
+-- 27, counts
+unfoldable pub countsDone : Tables → Done
+countsDone t = record { number = countsNumber (refusalsOf (t .channels)); values = countsValues (refusalsOf (t .channels)); tables = t }

@@ -1,0 +1,4 @@
+pub mod Values
+pub mod Done
+pub mod Operands
+pub mod Channels

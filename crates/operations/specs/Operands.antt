@@ -1,0 +1,19 @@
+-- Document 01, "The operation log": operands, at places counted from the record's start (the mark is at 0 and 1, the operation at 2).
+use mathlib.Core.List.{List}
+use Prim.Native.Nat.{ℕ, _+_}
+use Rattle.cap.specs.declared.CapId.{CapId}
+use Rattle.ipc.specs.declared.state.Message.{Message}
+use Rattle.ipc.specs.declared.state.TaskId.{TaskId}
+use Rattle.logread.specs.Little.{littleAt}
+
+-- the id at a place
+abbrev pub idAt : List ℕ → ℕ → CapId
+idAt log at = record { raw = littleAt log at 4 }
+
+-- the task at a place, slot and epoch
+abbrev pub taskAt : List ℕ → ℕ → TaskId
+taskAt log at = record { slot = littleAt log at 2; epoch = littleAt log (at + 2) 2 }
+
+-- the message at a place, tag, a and b
+abbrev pub messageAt : List ℕ → ℕ → Message
+messageAt log at = record { tag = littleAt log at 4; a = littleAt log (at + 4) 8; b = littleAt log (at + 12) 8 }
