@@ -2,3 +2,7 @@ pub mod Values
 pub mod Done
 pub mod Operands
 pub mod Channels
+pub mod Holds
+pub mod Rows
+pub mod Mints
+pub mod Joined

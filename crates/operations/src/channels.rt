@@ -1,4 +1,4 @@
-// Operations 0 to 6, 9 to 12 and 27: the calls on the channel table.
+// Operations 1 to 6, 9 to 12 and 27: the calls on the channel table.
 ghost use mathlib.Core.Path.{_≡_};
 ghost use mathlib.Core.List.{_∷_};
 ghost use Rattle.ipc.specs.Sound.{Sound};
@@ -6,7 +6,7 @@ ghost use Rattle.ipc.specs.Answers.{messageValues, createValues, sendValues, re
 ghost use Rattle.ipc.specs.declared.answers.CreateAnswer.the-variants.{Created};
 ghost use Rattle.operations.specs.Values.{held};
 ghost use Rattle.operations.specs.Done.{packed};
-ghost use Rattle.operations.specs.Channels.{createDone, sendDone, receiveDone, parkDone, queuedDone, revokeDone, holdersDone, clearDone, noteAuthorityDone, noteStateDone};
+ghost use Rattle.operations.specs.Channels.{createDone, sendDone, receiveDone, parkDone, queuedDone, revokeDone, holdersDone, clearDone, noteAuthorityDone, noteStateDone, countsDone};
 use crate::Outcome;
 use crate::Tables;
 use crate::values;
@@ -24,6 +24,7 @@ use ipc::answers::SendAnswer;
 use ipc::state::Channel;
 use ipc::state::Message;
 use ipc::state::TaskId;
+use laws::refusals;
 use logread::byte_at;
 use logread::u16_at;
 use logread::u32_at;
@@ -399,5 +400,24 @@ pub fn op_note_state(t: Tables) -> Outcome
             tasks,
             irqs,
         },
+    }
+}
+
+// 27: a look that nothing refuses.
+pub fn op_counts(t: Tables) -> Outcome
+    ensures { λ r. ⌜ r ≡ packed (countsDone t) ⌝ }
+{
+    let counts = t.channels.refusals;
+    let v = values::three(
+        counts.authority as u64,
+        counts.full as u64,
+        counts.state as u64,
+    );
+    let at = v.at;
+    Outcome {
+        number: refusals::ACCEPTED,
+        values: at,
+        count: v.count,
+        tables: t,
     }
 }

@@ -2,6 +2,10 @@
 //
 // These functions are interior: each is lent tables whose channel table is known to be sound, and leaves one that is.
 pub mod channels;
+pub mod holds;
+pub mod joined_steps;
+pub mod mints;
+pub mod rows;
 pub mod values;
 
 use capslots::Table as Rows;

@@ -1,0 +1,62 @@
+-- Each operation on the channel table leaves it sound; the operations on rows and mint tables leave it as it was. Assumes nothing.
+use mathlib.Core.List.{List}
+use Prim.Native.Nat.{ℕ}
+use Rattle.ipc.specs.Sound.{Sound}
+use Rattle.ipc.specs.Holds.{registerOf}
+use Rattle.ipc.specs.declared.answers.Registering.{Registering}
+use Rattle.ipc.proofs.Keeps.{counts-kept}
+use Rattle.ipc.proofs.KeepsCalls.{send-kept, recv-kept, park-kept, registered-all-kept}
+use Rattle.ipc.proofs.KeepsClear.{clear-kept}
+use Rattle.ipc.proofs.KeepsCreate.{create-kept}
+use Rattle.ipc.proofs.KeepsRevoke.{revoke-kept}
+use Rattle.joined.proofs.Calls.{spawn-kept, give-kept}
+use Rattle.laws.proofs.Cases.{all-pick}
+use Rattle.operations.specs.Channels.{createDone, sendDone, receiveDone, parkDone, revokeDone, clearDone, noteAuthorityDone, noteStateDone}
+use Rattle.operations.specs.Holds.{registerDone}
+use Rattle.operations.specs.Joined.{spawnDone, giveDone}
+use Rattle.operations.specs.declared.Tables.{Tables}
+
+module _ (log : List ℕ) (t : Tables) (s : Sound (t .channels)) where
+  pub create-done-kept : Sound (createDone log t .tables .channels)
+  unfolding createDone
+  create-done-kept = create-kept (t .channels) _ s
+
+  pub send-done-kept : Sound (sendDone log t .tables .channels)
+  unfolding sendDone
+  send-done-kept = send-kept (t .channels) _ _ s
+
+  pub receive-done-kept : Sound (receiveDone log t .tables .channels)
+  unfolding receiveDone
+  receive-done-kept = recv-kept (t .channels) _ s
+
+  pub park-done-kept : Sound (parkDone log t .tables .channels)
+  unfolding parkDone
+  park-done-kept = park-kept (t .channels) _ _ s
+
+  pub revoke-done-kept : Sound (revokeDone log t .tables .channels)
+  unfolding revokeDone
+  revoke-done-kept = revoke-kept (t .channels) _ s
+
+  pub clear-done-kept : Sound (clearDone log t .tables .channels)
+  unfolding clearDone
+  clear-done-kept = clear-kept (t .channels) _ s
+
+  pub note-authority-done-kept : Sound (noteAuthorityDone t .tables .channels)
+  unfolding noteAuthorityDone
+  note-authority-done-kept = counts-kept (t .channels) _ s
+
+  pub note-state-done-kept : Sound (noteStateDone t .tables .channels)
+  unfolding noteStateDone
+  note-state-done-kept = counts-kept (t .channels) _ s
+
+  pub register-done-kept : Sound (registerDone log t .tables .channels)
+  unfolding registerDone registerOf
+  register-done-kept = all-pick (λ (r : Registering). Sound (r .table)) _ _ _ (λ _. registered-all-kept (t .channels) _ s) (λ _. s)
+
+  pub spawn-done-kept : Sound (spawnDone log t .tables .channels)
+  unfolding spawnDone
+  spawn-done-kept = spawn-kept (t .channels) (t .rows) _ _ s
+
+  pub give-done-kept : Sound (giveDone log t .tables .channels)
+  unfolding giveDone
+  give-done-kept = give-kept (t .channels) (t .rows) _ _ _ s

@@ -1,0 +1,50 @@
+-- Document 01, "The operation log", operations 19 to 23: the calls on the two mint tables. A task is one u32 number here.
+use mathlib.Core.List.{List, [], _∷_}
+use Prim.Native.Nat.{ℕ}
+use Rattle.laws.specs.Refusals as no
+use Rattle.mint.specs.Answer.{mintNumber, mintValues, lookupNumber, lookupValues}
+use Rattle.mint.specs.declared.LookupAnswer.{LookupAnswer}
+use Rattle.irqcap.specs.Table as irqs
+use Rattle.irqcap.specs.declared.Minted.{Minted as IrqMinted}
+use Rattle.taskcap.specs.Table as tasks
+use Rattle.taskcap.specs.declared.Minted.{Minted as TaskMinted}
+use Rattle.taskcap.specs.declared.Revoked.{Revoked}
+use Rattle.logread.specs.Little.{littleAt}
+use Rattle.operations.specs.Done.{Done, withTasks, withIrqs}
+use Rattle.operations.specs.Operands.{idAt}
+use Rattle.operations.specs.declared.Tables.{Tables}
+
+-- ---- what a call's answer and table come to
+abbrev pub taskMinted : Tables → TaskMinted → Done
+taskMinted t r = record { number = mintNumber (r .answer); values = mintValues (r .answer); tables = withTasks t (r .table) }
+
+abbrev pub irqMinted : Tables → IrqMinted → Done
+irqMinted t r = record { number = mintNumber (r .answer); values = mintValues (r .answer); tables = withIrqs t (r .table) }
+
+abbrev pub named : Tables → LookupAnswer → Done
+named t a = record { number = lookupNumber a; values = lookupValues a; tables = t }
+
+-- ending a task shows how many entries it ended
+abbrev pub ended : Tables → Revoked → Done
+ended t r = record { number = no.accepted; values = r .count ∷ []; tables = withTasks t (r .table) }
+
+-- ---- the operations
+-- 19, task mint (task)
+unfoldable pub taskMintDone : List ℕ → Tables → Done
+taskMintDone log t = taskMinted t (tasks.mintOf (t .tasks) (littleAt log 3 4))
+
+-- 20, task lookup (id)
+unfoldable pub taskLookupDone : List ℕ → Tables → Done
+taskLookupDone log t = named t (tasks.lookupOf (t .tasks) (idAt log 3))
+
+-- 21, task end (task)
+unfoldable pub taskEndDone : List ℕ → Tables → Done
+taskEndDone log t = ended t (tasks.revokeOf (t .tasks) (littleAt log 3 4))
+
+-- 22, IRQ mint (cookie)
+unfoldable pub irqMintDone : List ℕ → Tables → Done
+irqMintDone log t = irqMinted t (irqs.mintOf (t .irqs) (littleAt log 3 4))
+
+-- 23, IRQ lookup (id)
+unfoldable pub irqLookupDone : List ℕ → Tables → Done
+irqLookupDone log t = named t (irqs.lookupOf (t .irqs) (idAt log 3))

@@ -1,0 +1,60 @@
+-- Document 01, "The operation log", operations 13 to 17: the calls on the rows. Rows and slots are one byte.
+use mathlib.Core.Bool.{Bool}
+use mathlib.Core.List.{List, [], _∷_}
+use Prim.Native.Nat.{ℕ}
+use Rattle.laws.specs.Pick.{pick}
+use Rattle.laws.specs.Refusals as no
+use Rattle.cap.specs.Slot.{slotNumber, slotValues}
+use Rattle.cap.specs.declared.slot.SlotAnswer.{SlotAnswer}
+use Rattle.capslots.specs.Answers.{seedNumber, seedValues, installNumber, installValues, transferNumber, transferValues}
+use Rattle.capslots.specs.Rows.{getOf, holdsOf, seedOf, installOf}
+use Rattle.capslots.specs.Transfer.{transferOf}
+use Rattle.capslots.specs.declared.Seeded.{Seeded}
+use Rattle.capslots.specs.declared.Installed.{Installed}
+use Rattle.capslots.specs.declared.moves.Transferred.{Transferred}
+use Rattle.logread.specs.Little.{byteAt}
+use Rattle.logread.specs.Lists.{listWords}
+use Rattle.operations.specs.Done.{Done, withRows}
+use Rattle.operations.specs.Operands.{idAt}
+use Rattle.operations.specs.declared.Tables.{Tables}
+
+-- ---- what a call's answer and table come to
+abbrev pub got : Tables → SlotAnswer → Done
+got t a = record { number = slotNumber a; values = slotValues a; tables = t }
+
+abbrev pub seeded : Tables → Seeded → Done
+seeded t r = record { number = seedNumber (r .answer); values = seedValues (r .answer); tables = withRows t (r .table) }
+
+abbrev pub installed : Tables → Installed → Done
+installed t r = record { number = installNumber (r .answer); values = installValues (r .answer); tables = withRows t (r .table) }
+
+abbrev pub transferred : Tables → Transferred → Done
+transferred t r = record { number = transferNumber (r .answer); values = transferValues (r .answer); tables = withRows t (r .table) }
+
+-- yes is 1 and no is 0
+unfoldable pub flagValues : Bool → List ℕ
+flagValues b = pick b (1 ∷ []) (0 ∷ [])
+
+abbrev pub told : Tables → Bool → Done
+told t b = record { number = no.accepted; values = flagValues b; tables = t }
+
+-- ---- the operations
+-- 13, get (row, slot)
+unfoldable pub getDone : List ℕ → Tables → Done
+getDone log t = got t (getOf (t .rows) (byteAt log 3) (byteAt log 4))
+
+-- 14, holds (row, id)
+unfoldable pub holdsDone : List ℕ → Tables → Done
+holdsDone log t = told t (holdsOf (t .rows) (byteAt log 3) (idAt log 4))
+
+-- 15, seed (row, list)
+unfoldable pub seedDone : List ℕ → Tables → Done
+seedDone log t = seeded t (seedOf (t .rows) (byteAt log 3) (listWords log 4))
+
+-- 16, install (row, slot, id)
+unfoldable pub installDone : List ℕ → Tables → Done
+installDone log t = installed t (installOf (t .rows) (byteAt log 3) (byteAt log 4) (idAt log 5))
+
+-- 17, transfer (from row, from slot, to row, to slot)
+unfoldable pub transferDone : List ℕ → Tables → Done
+transferDone log t = transferred t (transferOf (t .rows) (byteAt log 3) (byteAt log 4) (byteAt log 5) (byteAt log 6))
