@@ -4,6 +4,7 @@ use Prim.Native.Nat.{ℕ}
 use Rattle.ipc.specs.Sound.{Sound}
 use Rattle.ipc.specs.Holds.{registerOf}
 use Rattle.ipc.specs.declared.answers.Registering.{Registering}
+use Rattle.ipc.proofs.Fresh.{in-range-of, fresh-sound}
 use Rattle.ipc.proofs.Keeps.{counts-kept}
 use Rattle.ipc.proofs.KeepsCalls.{send-kept, recv-kept, park-kept, registered-all-kept}
 use Rattle.ipc.proofs.KeepsClear.{clear-kept}
@@ -11,12 +12,17 @@ use Rattle.ipc.proofs.KeepsCreate.{create-kept}
 use Rattle.ipc.proofs.KeepsRevoke.{revoke-kept}
 use Rattle.joined.proofs.Calls.{spawn-kept, give-kept}
 use Rattle.laws.proofs.Cases.{all-pick}
-use Rattle.operations.specs.Channels.{createDone, sendDone, receiveDone, parkDone, revokeDone, clearDone, noteAuthorityDone, noteStateDone}
+use Rattle.operations.specs.Channels.{newDone, createDone, sendDone, receiveDone, parkDone, revokeDone, clearDone, noteAuthorityDone, noteStateDone}
 use Rattle.operations.specs.Holds.{registerDone}
 use Rattle.operations.specs.Joined.{spawnDone, giveDone}
+use Rattle.operations.specs.Done.{Done}
 use Rattle.operations.specs.declared.Tables.{Tables}
 
 module _ (log : List ℕ) (t : Tables) (s : Sound (t .channels)) where
+  pub new-done-kept : Sound (newDone log t .tables .channels)
+  unfolding newDone
+  new-done-kept = all-pick (λ (d : Done). Sound (d .tables .channels)) _ _ _ (λ h. fresh-sound _ (in-range-of _ h)) (λ _. s)
+
   pub create-done-kept : Sound (createDone log t .tables .channels)
   unfolding createDone
   create-done-kept = create-kept (t .channels) _ s

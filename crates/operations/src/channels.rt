@@ -1,4 +1,4 @@
-// Operations 1 to 6, 9 to 12 and 27: the calls on the channel table.
+// Operations 0 to 6, 9 to 12 and 27: the calls on the channel table.
 ghost use mathlib.Core.Path.{_≡_};
 ghost use mathlib.Core.List.{_∷_};
 ghost use Rattle.ipc.specs.Sound.{Sound};
@@ -6,7 +6,7 @@ ghost use Rattle.ipc.specs.Answers.{messageValues, createValues, sendValues, re
 ghost use Rattle.ipc.specs.declared.answers.CreateAnswer.the-variants.{Created};
 ghost use Rattle.operations.specs.Values.{held};
 ghost use Rattle.operations.specs.Done.{packed};
-ghost use Rattle.operations.specs.Channels.{createDone, sendDone, receiveDone, parkDone, queuedDone, revokeDone, holdersDone, clearDone, noteAuthorityDone, noteStateDone, countsDone};
+ghost use Rattle.operations.specs.Channels.{createDone, sendDone, receiveDone, parkDone, queuedDone, revokeDone, holdersDone, clearDone, noteAuthorityDone, noteStateDone, countsDone, newDone};
 use crate::Outcome;
 use crate::Tables;
 use crate::values;
@@ -16,6 +16,7 @@ use cap::CapId;
 use ipc::answers::ClearAnswer;
 use ipc::answers::CreateAnswer;
 use ipc::answers::HoldersAnswer;
+use ipc::answers::NewAnswer;
 use ipc::answers::ParkAnswer;
 use ipc::answers::QueuedAnswer;
 use ipc::answers::RecvAnswer;
@@ -419,5 +420,38 @@ pub fn op_counts(t: Tables) -> Outcome
         values: at,
         count: v.count,
         tables: t,
+    }
+}
+
+// 0: every table fresh, or all of them kept.
+pub fn op_new(t: Tables, log: &[u8]) -> Outcome
+    ensures { λ r. ⌜ r ≡ packed (newDone (now (log .entry)) t) ⌝ }
+{
+    let m = byte_at(log, 3) as usize;
+    let e = byte_at(log, 4) as usize;
+    let d = byte_at(log, 5) as usize;
+    let v = values::none();
+    let at = v.at;
+    let made = ipc::new(m, e, d);
+    let answer = made.answer;
+    let NewAnswer::Made = answer else {
+        return Outcome {
+            number: refusals::BAD_SIZES,
+            values: at,
+            count: v.count,
+            tables: t,
+        };
+    };
+    let channels = made.table;
+    Outcome {
+        number: refusals::ACCEPTED,
+        values: at,
+        count: v.count,
+        tables: Tables {
+            channels,
+            rows: capslots::new(),
+            tasks: taskcap::new(),
+            irqs: irqcap::new(),
+        },
     }
 }

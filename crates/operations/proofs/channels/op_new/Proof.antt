@@ -1,0 +1,74 @@
+-- `operations::channels::op_new` meets its contract. Assumes nothing.
+use Rattle.operations.proofs.New.{new-refused, new-made}
+use borrow.Author.Needs.{needs}
+use Rattle.operations.proofs.channels.op_new.Statement.{statement}
+use Rattle.operations.proofs.channels.op_new.Tie as tie
+use Rattle.irqcap.proofs.new.Reads as new-reads′
+use Rattle.taskcap.proofs.new.Reads as new-reads′′
+
+byte-at-requires : tie.Need-byte-at-requires
+byte-at-requires c κs = search needs
+
+cast-m : tie.Need-cast-m
+cast-m c = search needs
+
+byte-at-requires-2 : tie.Need-byte-at-requires-2
+byte-at-requires-2 c κs = search needs
+
+cast-e : tie.Need-cast-e
+cast-e c = search needs
+
+byte-at-requires-3 : tie.Need-byte-at-requires-3
+byte-at-requires-3 c κs = search needs
+
+cast-d : tie.Need-cast-d
+cast-d c = search needs
+
+none-requires : tie.Need-none-requires
+none-requires c κs = search needs
+
+new-requires : tie.Need-new-requires
+new-requires c κs = search needs
+
+enum-told : tie.Need-enum-told
+enum-told c = search needs
+
+enum-told-2 : tie.Need-enum-told-2
+enum-told-2 c = search needs
+
+returns : tie.Need-returns
+returns c =
+    new-refused _ _ (c .before .before .before .before .before .before .before .byte-at .ensures) (c .before .before .before .before .before .before .byte-at2 .ensures) (c .before .before .before .before .before .byte-at3 .ensures) (c .before .before .new .ensures) (c .before .before .before .before .none .ensures) (c .enum-told2 .given .1)
+
+new-requires-2 : tie.Need-new-requires-2
+new-requires-2 c κs = search needs
+
+new-requires-3 : tie.Need-new-requires-3
+new-requires-3 c κs = search needs
+
+new-requires-4 : tie.Need-new-requires-4
+new-requires-4 c κs = search needs
+
+returns-2 : tie.Need-returns-2
+returns-2 c =
+    new-made _ _ (c .before .before .before .before .before .before .before .before .before .before .before .byte-at .ensures) (c .before .before .before .before .before .before .before .before .before .before .byte-at2 .ensures) (c .before .before .before .before .before .before .before .before .before .byte-at3 .ensures) (c .before .before .before .before .before .before .new .ensures) (c .before .before .before .before .before .before .before .before .none .ensures) (c .before .before .before .before .enum-told .given .1) (c .before .before .new2 .ensures) (c .before .new3 .ensures) (c .new4 .ensures)
+
+pub op-new-spec : {M : Type 1} → statement M
+op-new-spec =
+    tie.close
+    (tie.spec
+    byte-at-requires
+    cast-m
+    byte-at-requires-2
+    cast-e
+    byte-at-requires-3
+    cast-d
+    none-requires
+    new-requires
+    enum-told
+    enum-told-2
+    returns
+    new-requires-2
+    new-requires-3
+    new-requires-4
+    returns-2)
