@@ -1,3 +1,4 @@
 pub mod Packs
 pub mod New
 pub mod Keeps
+pub mod Push
