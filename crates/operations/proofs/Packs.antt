@@ -1,5 +1,5 @@
 -- An outcome is what the rule packs, once its number and its values are those of the call's answer. Assumes nothing.
-use mathlib.Core.Path.{_≡_, refl}
+use mathlib.Core.Path.{_≡_}
 use Prim.Native.Nat.{ℕ}
 use Rattle.operations.specs.Values.{held}
 use Rattle.operations.specs.Done.{Done, packed}

@@ -7,7 +7,6 @@ use borrow.Author.Tests.{lt-leb}
 use lib.ListN.{length, set}
 use Rattle.laws.specs.Pick.{pick}
 use Rattle.operations.specs.Values.{padded, held, pushed}
-use Rattle.operations.specs.declared.values.Values.{Values}
 
 padded-set : (n : ℕ) (vs : List ℕ) (x : ℕ) → length vs < n → set (padded n vs) (length vs) x ≡ padded n (vs ++ (x ∷ []))
 unfolding padded
