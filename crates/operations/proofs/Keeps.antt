@@ -1,4 +1,4 @@
--- Each operation on the channel table leaves it sound; the operations on rows and mint tables leave it as it was. Assumes nothing.
+-- Each operation that calls the channel table leaves it sound. Assumes nothing.
 use mathlib.Core.List.{List}
 use Prim.Native.Nat.{ℕ}
 use Rattle.ipc.specs.Sound.{Sound}
