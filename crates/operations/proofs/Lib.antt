@@ -2,3 +2,4 @@ pub mod Packs
 pub mod New
 pub mod Keeps
 pub mod Push
+pub mod Pushes

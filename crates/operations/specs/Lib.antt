@@ -6,3 +6,4 @@ pub mod Holds
 pub mod Rows
 pub mod Mints
 pub mod Joined
+pub mod Fours

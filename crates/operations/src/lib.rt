@@ -2,8 +2,11 @@
 //
 // These functions are interior: each is lent tables whose channel table is known to be sound, and leaves one that is.
 pub mod channels;
+pub mod counts;
+pub mod fours;
 pub mod holds;
 pub mod joined_steps;
+pub mod messages;
 pub mod mints;
 pub mod rows;
 pub mod values;

@@ -1,0 +1,49 @@
+-- `operations::counts::holders_values` meets its contract. Assumes nothing.
+use borrow.Author.Needs.{needs}
+use Rattle.operations.proofs.counts.holders_values.Statement.{statement}
+use Rattle.operations.proofs.counts.holders_values.Tie as tie
+
+enum-known-a : tie.Need-enum-known-a
+enum-known-a c = search needs
+
+cast-one : tie.Need-cast-one
+cast-one c = search needs
+
+one-requires : tie.Need-one-requires
+one-requires c κs = search needs
+
+enum-told : tie.Need-enum-told
+enum-told c = search needs
+
+none-requires : tie.Need-none-requires
+none-requires c κs = search needs
+
+enum-told-2 : tie.Need-enum-told-2
+enum-told-2 c = search needs
+
+none-requires-2 : tie.Need-none-requires-2
+none-requires-2 c κs = search needs
+
+returns : tie.Need-returns
+returns c = rw (c .before .before .a .given .1) (c .one .ensures)
+
+returns-2 : tie.Need-returns-2
+returns-2 c = rw (c .before .enum-told .given .1) (c .none .ensures)
+
+returns-3 : tie.Need-returns-3
+returns-3 c = rw (c .before .enum-told2 .given .1) (c .none2 .ensures)
+
+pub holders-values-spec : {M : Type 1} → statement M
+holders-values-spec =
+    tie.close
+    (tie.spec
+    enum-known-a
+    cast-one
+    one-requires
+    enum-told
+    none-requires
+    enum-told-2
+    none-requires-2
+    returns
+    returns-2
+    returns-3)
