@@ -2,18 +2,19 @@
 use mathlib.Core.List.{List}
 use Prim.Native.Nat.{ℕ}
 use Rattle.ipc.specs.Sound.{Sound}
-use Rattle.ipc.specs.Holds.{registerOf}
+use Rattle.ipc.specs.Holds.{registerOf, releaseOf}
 use Rattle.ipc.specs.declared.answers.Registering.{Registering}
 use Rattle.ipc.proofs.Fresh.{in-range-of, fresh-sound}
 use Rattle.ipc.proofs.Keeps.{counts-kept}
-use Rattle.ipc.proofs.KeepsCalls.{send-kept, recv-kept, park-kept, registered-all-kept}
+use Rattle.ipc.proofs.KeepsCalls.{send-kept, recv-kept, park-kept, registered-all-kept, released-all-kept}
 use Rattle.ipc.proofs.KeepsClear.{clear-kept}
 use Rattle.ipc.proofs.KeepsCreate.{create-kept}
 use Rattle.ipc.proofs.KeepsRevoke.{revoke-kept}
-use Rattle.joined.proofs.Calls.{spawn-kept, give-kept}
+use Rattle.joined.proofs.Calls.{spawn-kept, leave-kept, give-kept}
 use Rattle.laws.proofs.Cases.{all-pick}
 use Rattle.operations.specs.Channels.{newDone, createDone, sendDone, receiveDone, parkDone, revokeDone, clearDone, noteAuthorityDone, noteStateDone}
 use Rattle.operations.specs.Holds.{registerDone}
+use Rattle.operations.specs.Fours.{releaseDone, leaveDone}
 use Rattle.operations.specs.Joined.{spawnDone, giveDone}
 use Rattle.operations.specs.Done.{Done}
 use Rattle.operations.specs.declared.Tables.{Tables}
@@ -59,9 +60,17 @@ module _ (log : List ℕ) (t : Tables) (s : Sound (t .channels)) where
   unfolding registerDone registerOf
   register-done-kept = all-pick (λ (r : Registering). Sound (r .table)) _ _ _ (λ _. registered-all-kept (t .channels) _ s) (λ _. s)
 
+  pub release-done-kept : Sound (releaseDone log t .tables .channels)
+  unfolding releaseDone releaseOf
+  release-done-kept = released-all-kept (t .channels) _ s
+
   pub spawn-done-kept : Sound (spawnDone log t .tables .channels)
   unfolding spawnDone
   spawn-done-kept = spawn-kept (t .channels) (t .rows) _ _ s
+
+  pub leave-done-kept : Sound (leaveDone log t .tables .channels)
+  unfolding leaveDone
+  leave-done-kept = leave-kept (t .channels) (t .rows) _ s
 
   pub give-done-kept : Sound (giveDone log t .tables .channels)
   unfolding giveDone

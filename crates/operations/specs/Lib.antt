@@ -7,3 +7,4 @@ pub mod Rows
 pub mod Mints
 pub mod Joined
 pub mod Fours
+pub mod Apply

@@ -1,0 +1,130 @@
+-- What holds of every operation: the channel table stays sound, and a line shows at most twelve values. Assumes nothing.
+use mathlib.Core.List.{List, [], _∷_}
+use Prim.Native.Nat.{ℕ, zero, suc}
+use mathlib.Core.Bool.{not}
+use lib.Dec.{lit≤, eqb}
+use lib.ListN.{getD}
+use Rattle.laws.proofs.Cases.{all-pick}
+use Rattle.capslots.specs.Rows.{getOf, drainOf}
+use Rattle.ipc.specs.Create.{createOf}
+use Rattle.ipc.specs.Send.{sendOf}
+use Rattle.ipc.specs.Receive.{recvOf, parkOf}
+use Rattle.ipc.specs.Observe.{queuedOf, holdersOf}
+use Rattle.ipc.specs.Revoke.{revokeOf}
+use Rattle.ipc.specs.Holds.{releaseOf}
+use Rattle.ipc.specs.Waiters.{clearOf}
+use Rattle.ipc.specs.Sound.{Sound}
+use Rattle.irqcap.specs.Table as irqs
+use Rattle.taskcap.specs.Table as tasks
+use Rattle.joined.specs.Steps.{leaveOf}
+use Rattle.logread.specs.Little.{byteAt, littleAt}
+use Rattle.logread.specs.Lists.{listSlots}
+use Rattle.operations.specs.Apply.{applyOf, allDone, unknownDone}
+use Rattle.operations.specs.Channels.{newDone, createDone, sendDone, receiveDone, parkDone, queuedDone, revokeDone, holdersDone, clearDone, noteAuthorityDone, noteStateDone, countsDone}
+use Rattle.operations.specs.Done.{Done}
+use Rattle.operations.specs.Fours.{releaseDone, drainDone, leaveDone}
+use Rattle.operations.specs.Holds.{registerDone}
+use Rattle.operations.specs.Joined.{spawnDone, giveDone}
+use Rattle.operations.specs.Mints.{taskMintDone, taskLookupDone, taskEndDone, irqMintDone, irqLookupDone}
+use Rattle.operations.specs.Rows.{getDone, holdsDone, seedDone, installDone, transferDone}
+use Rattle.operations.specs.Operands.{idAt, taskAt, messageAt}
+use Rattle.operations.specs.declared.Tables.{Tables}
+use Rattle.operations.proofs.Few.{Few, none-few, create-few, send-few, recv-few, park-few, queued-few, revoke-few, release-few, holders-few, clear-few, slot-answer-few, flag-few, slots-few, mint-few, lookup-few, leave-few}
+use Rattle.operations.proofs.Keeps.{new-done-kept, create-done-kept, send-done-kept, receive-done-kept, park-done-kept, revoke-done-kept, register-done-kept, release-done-kept, clear-done-kept, note-authority-done-kept, note-state-done-kept, spawn-done-kept, leave-done-kept, give-done-kept}
+
+-- P holds of every element of a list
+data Every {A : Type 0} (P : A → Type 0) : List A → Type 0 where
+  end : Every P []
+  _▸_ : {a : A} {l : List A} → P a → Every P l → Every P (a ∷ l)
+infixr 5 _▸_
+
+listed : {A : Type 0} (P : A → Type 0) (l : List A) (d : A) → Every P l → P d → (i : ℕ) → P (getD l i d)
+listed P [] d h e i = e
+listed P (a ∷ l) d (h ▸ hs) e zero = h
+listed P (a ∷ l) d (h ▸ hs) e (suc i) = listed P l d hs e i
+
+module _ (log : List ℕ) (t : Tables) where
+  abbrev Keeps : Done → Type 0
+  Keeps d = Sound (d .tables .channels)
+
+  -- the rows, the mints and the looks leave the channel table as it is
+  all-kept : Sound (t .channels) → Every Keeps (allDone log t)
+  unfolding queuedDone holdersDone countsDone getDone holdsDone seedDone installDone transferDone drainDone taskMintDone taskLookupDone taskEndDone irqMintDone irqLookupDone
+  all-kept s =
+      new-done-kept log t s ▸
+      create-done-kept log t s ▸
+      send-done-kept log t s ▸
+      receive-done-kept log t s ▸
+      park-done-kept log t s ▸
+      s ▸
+      revoke-done-kept log t s ▸
+      register-done-kept log t s ▸
+      release-done-kept log t s ▸
+      s ▸
+      clear-done-kept log t s ▸
+      note-authority-done-kept log t s ▸
+      note-state-done-kept log t s ▸
+      s ▸
+      s ▸
+      s ▸
+      s ▸
+      s ▸
+      s ▸
+      s ▸
+      s ▸
+      s ▸
+      s ▸
+      s ▸
+      spawn-done-kept log t s ▸
+      leave-done-kept log t s ▸
+      give-done-kept log t s ▸
+      s ▸
+      end
+
+  pub apply-kept : (op : ℕ) → Sound (t .channels) → Sound (applyOf op log t .tables .channels)
+  unfolding applyOf
+  apply-kept op s = listed Keeps (allDone log t) (unknownDone t) (all-kept s) s op
+
+  abbrev Short : Done → Type 0
+  Short d = Few (d .values)
+
+  new-few : Short (newDone log t)
+  unfolding newDone
+  new-few = all-pick Short _ _ _ (λ _. none-few) (λ _. none-few)
+
+  all-few : Every Short (allDone log t)
+  unfolding createDone sendDone receiveDone parkDone queuedDone revokeDone registerDone releaseDone holdersDone clearDone noteAuthorityDone noteStateDone getDone holdsDone seedDone installDone transferDone drainDone taskMintDone taskLookupDone taskEndDone irqMintDone irqLookupDone spawnDone leaveDone giveDone countsDone
+  all-few =
+      new-few ▸
+      create-few (createOf (t .channels) (not (eqb (byteAt log 3) 0)) .answer) ▸
+      send-few (sendOf (t .channels) (idAt log 3) (messageAt log 7) .answer) ▸
+      recv-few (recvOf (t .channels) (idAt log 3) .answer) ▸
+      park-few (parkOf (t .channels) (idAt log 3) (taskAt log 7) .answer) ▸
+      queued-few (queuedOf (t .channels) (idAt log 3)) ▸
+      revoke-few (revokeOf (t .channels) (idAt log 3) .answer) ▸
+      none-few ▸
+      release-few (releaseOf (t .channels) (listSlots log 3) .answer) (releaseOf (t .channels) (listSlots log 3) .waiters) ▸
+      holders-few (holdersOf (t .channels) (idAt log 3)) ▸
+      clear-few (clearOf (t .channels) (taskAt log 3) .answer) ▸
+      none-few ▸
+      none-few ▸
+      slot-answer-few (getOf (t .rows) (byteAt log 3) (byteAt log 4)) ▸
+      flag-few _ ▸
+      none-few ▸
+      none-few ▸
+      none-few ▸
+      slots-few (drainOf (t .rows) (byteAt log 3) .slots) ▸
+      mint-few (tasks.mintOf (t .tasks) (littleAt log 3 4) .answer) ▸
+      lookup-few (tasks.lookupOf (t .tasks) (idAt log 3)) ▸
+      lit≤ tt ▸
+      mint-few (irqs.mintOf (t .irqs) (littleAt log 3 4) .answer) ▸
+      lookup-few (irqs.lookupOf (t .irqs) (idAt log 3)) ▸
+      none-few ▸
+      leave-few (leaveOf (t .channels) (t .rows) (byteAt log 3) .answer) (leaveOf (t .channels) (t .rows) (byteAt log 3) .waiters) ▸
+      none-few ▸
+      lit≤ tt ▸
+      end
+
+  pub apply-few : (op : ℕ) → Few (applyOf op log t .values)
+  unfolding applyOf
+  apply-few op = listed Short (allDone log t) (unknownDone t) all-few none-few op
