@@ -36,8 +36,8 @@ use Rattle.operations.proofs.Keeps.{new-done-kept, create-done-kept, se
 data Every {A : Type 0} (P : A → Type 0) : List A → Type 0 where
   end : Every P []
   _▸_ : {a : A} {l : List A} → P a → Every P l → Every P (a ∷ l)
-infixr 5 _▸_
 
+infixr 5 _▸_
 listed : {A : Type 0} (P : A → Type 0) (l : List A) (d : A) → Every P l → P d → (i : ℕ) → P (getD l i d)
 listed P [] d h e i = e
 listed P (a ∷ l) d (h ▸ hs) e zero = h

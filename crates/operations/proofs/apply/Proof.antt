@@ -8,7 +8,6 @@ use Rattle.operations.specs.Done.{Done, packed}
 use Rattle.operations.specs.declared.Tables.{Tables}
 use Rattle.operations.specs.declared.Outcome.{Outcome}
 use Rattle.operations.proofs.Matches.{past}
-
 use borrow.Author.Needs.{needs}
 use Rattle.operations.proofs.apply.Statement.{statement}
 use Rattle.operations.proofs.apply.Tie as tie

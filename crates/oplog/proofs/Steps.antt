@@ -1,0 +1,72 @@
+-- The ways of a step: each fault, a line without room, a record taken. Assumes nothing.
+use mathlib.Core.Path.{_≡_, refl, sym, ap, _∙_}
+use mathlib.Core.Bool.{Bool, true, false}
+use mathlib.Core.List.{List, [], _∷_}
+use Prim.Native.Nat.{ℕ, zero, suc, _≤_}
+use native.Mathlib.Nat.{not-suc-le-zero, le-of-suc-le-suc}
+use native.Mathlib.Omega.{arith}
+use lib.ListN.{length, take}
+use Rattle.laws.specs.Pick.{pick}
+use Rattle.line.specs.Line.{lineOf}
+use Rattle.line.specs.Put.{written, putOf}
+use Rattle.line.specs.declared.Written.{Written}
+use Rattle.line.specs.declared.Written.the-variants.{Upto, NoRoom as Crowded}
+use Rattle.logread.specs.Read.{readOf}
+use Rattle.logread.specs.declared.Read as read
+use Rattle.operations.specs.Done.{Done, packed}
+use Rattle.operations.specs.Values.{padded}
+use Rattle.operations.specs.Apply.{applyOf}
+use Rattle.operations.specs.declared.Tables.{Tables}
+use Rattle.operations.specs.declared.Outcome.{Outcome}
+use Rattle.operations.proofs.Applied.{apply-few}
+use Rattle.oplog.specs.Step.{operandsOk, reading, writing, textOf, refusedStep, stepOf, stepOut}
+use Rattle.oplog.specs.declared.StepAnswer.{StepAnswer}
+use Rattle.oplog.specs.declared.StepAnswer.the-variants.{Took, Short, BadMark, BadOp, BadOperand, NoRoom, BadTable}
+use Rattle.oplog.specs.declared.Stepped.{Stepped}
+
+-- the values that are shown are those that the operation gave
+padded-shown : (n : ℕ) (vs : List ℕ) → length vs ≤ n → take (length vs) (padded n vs) ≡ vs
+unfolding padded
+padded-shown n [] h = refl
+padded-shown zero (v ∷ vs) h = absurd (not-suc-le-zero h)
+padded-shown (suc n) (v ∷ vs) h = ap (λ (l : List ℕ). v ∷ l) (padded-shown n vs (le-of-suc-le-suc h))
+
+shown : (vs : List ℕ) → length vs ≤ 12 → take (length vs) (padded 12 vs) ≡ vs
+shown = padded-shown 12
+
+module _ (log out : List ℕ) (number at : ℕ) (t : Tables) where
+  pub short : readOf log ≡ read.the-variants.Short → (refusedStep at t Short ≡ stepOf log number out at t) × (out ≡ stepOut log number out at t)
+  unfolding stepOf stepOut reading
+  short e = (rw e refl, rw e refl)
+
+  pub bad-mark : readOf log ≡ read.the-variants.BadMark → (refusedStep at t BadMark ≡ stepOf log number out at t) × (out ≡ stepOut log number out at t)
+  unfolding stepOf stepOut reading
+  bad-mark e = (rw e refl, rw e refl)
+
+  pub bad-op : readOf log ≡ read.the-variants.BadOp → (refusedStep at t BadOp ≡ stepOf log number out at t) × (out ≡ stepOut log number out at t)
+  unfolding stepOf stepOut reading
+  bad-op e = (rw e refl, rw e refl)
+
+  module _ (op len : ℕ) (er : readOf log ≡ read.the-variants.Whole op len) where
+    pub bad-operand : operandsOk op log ≡ false → (refusedStep at t BadOperand ≡ stepOf log number out at t) × (out ≡ stepOut log number out at t)
+    unfolding stepOf stepOut reading pick
+    bad-operand e = (rw (er, e) refl, rw (er, e) refl)
+
+    -- d is what the operation came to, w what writing its line answered, left the buffer then
+    module _ (left : List ℕ) (d : Outcome) (w : Written) (eo : operandsOk op log ≡ true) (ed : d ≡ packed (applyOf op log t))
+        (ew : w ≡ putOf out at (lineOf number op (d .number) (take (d .count) (d .values))))
+        (el : left ≡ written out at (lineOf number op (d .number) (take (d .count) (d .values)))) where
+      text : lineOf number op (d .number) (take (d .count) (d .values)) ≡ textOf number op (applyOf op log t)
+      text = rw (ed, shown (applyOf op log t .values) (apply-few log t op))
+
+      left-is : left ≡ stepOut log number out at t
+      unfolding stepOut reading pick
+      left-is = rw (er, eo, ← text) el
+
+      pub took : (next : ℕ) → w ≡ Upto next → (_≡_ {A = Stepped} (record { answer = Took; used = len; at = next; tables = d .tables }) (stepOf log number out at t)) × (left ≡ stepOut log number out at t)
+      unfolding stepOf reading writing pick
+      took next e = (rw (er, eo, ← text, ← ew, e, ed) refl, left-is)
+
+      pub no-room : w ≡ Crowded → (refusedStep at t NoRoom ≡ stepOf log number out at t) × (left ≡ stepOut log number out at t)
+      unfolding stepOf reading writing pick
+      no-room e = (rw (er, eo, ← text, ← ew, e) refl, left-is)

@@ -1,0 +1,131 @@
+// The step and the run on tables whose channel table is known to be sound.
+ghost use mathlib.Core.Path.{_≡_};
+ghost use Prim.Native.Nat.{_+_, _<_, _^_};
+ghost use lib.ListN.{length};
+ghost use Rattle.ipc.specs.Sound.{Sound};
+ghost use Rattle.oplog.specs.Run.{runOf};
+ghost use Rattle.oplog.specs.Step.{operandsOk, stepOf, stepOut};
+use crate::Ran;
+use crate::StepAnswer;
+use crate::Stepped;
+use line::Written;
+use logread::Read;
+use operations::Tables;
+
+// Refusal 25: the flag of create, and the lists of register, release, seed and spawn.
+fn operands_ok(op: u8, log: &[u8]) -> bool
+    ensures { λ r. ⌜ r ≡ operandsOk op (now (log .entry)) ⌝ }
+{
+    if op == 1 {
+        return logread::flag_ok(logread::byte_at(log, 3));
+    }
+    if (op == 7) | (op == 8) {
+        return logread::list_ok(log, 3);
+    }
+    if (op == 15) | (op == 24) {
+        return logread::list_ok(log, 4);
+    }
+    true
+}
+
+// One record of the log, and its line from place `at` of the lent buffer on.
+pub fn step(log: &[u8], number: u64, out: &mut [u8], at: usize, t: Tables) -> Stepped
+    requires { ⌜ Sound (t .channels) ⌝ }
+    ensures answer { λ r. ⌜ r ≡ stepOf (now (log .entry)) number (now (out .entry)) at t ⌝ }
+    ensures buffer { λ _. ⌜ now (out .exit) ≡ stepOut (now (log .entry)) number (now (out .entry)) at t ⌝ }
+{
+    match logread::read_record(log) {
+        Read::Short => Stepped {
+            answer: StepAnswer::Short,
+            used: 0,
+            at,
+            tables: t,
+        },
+        Read::BadMark => Stepped {
+            answer: StepAnswer::BadMark,
+            used: 0,
+            at,
+            tables: t,
+        },
+        Read::BadOp => Stepped {
+            answer: StepAnswer::BadOp,
+            used: 0,
+            at,
+            tables: t,
+        },
+        Read::Whole { op, len } => {
+            if !operands_ok(op, log) {
+                return Stepped {
+                    answer: StepAnswer::BadOperand,
+                    used: 0,
+                    at,
+                    tables: t,
+                };
+            }
+            let done = operations::apply(op, t, log);
+            let values = done.values;
+            let after = done.tables;
+            match line::write_line(
+                out,
+                at,
+                number,
+                op as u64,
+                done.number as u64,
+                values,
+                done.count,
+            ) {
+                Written::Upto(next) => Stepped {
+                    answer: StepAnswer::Took,
+                    used: len,
+                    at: next,
+                    tables: after,
+                },
+                Written::NoRoom => Stepped {
+                    answer: StepAnswer::NoRoom,
+                    used: 0,
+                    at,
+                    tables: t,
+                },
+            }
+        }
+    }
+}
+
+// The records of a log, into a buffer from its start on, `before` others having been taken. Where the buffer has no room left for the next
+// line, the run can be taken up at that record with an empty one.
+pub fn run(log: &[u8], before: u64, out: &mut [u8], tables: Tables) -> Ran
+    requires { ⌜ Sound (tables .channels) × (before + length (now log) < 2 ^ 64) ⌝ }
+    ensures answer { λ r. ⌜ r ≡ runOf (now (log .entry)) before (now (out .entry)) tables .answer ⌝ }
+    ensures buffer { λ _. ⌜ now (out .exit) ≡ runOf (now (log .entry)) before (now (out .entry)) tables .buffer ⌝ }
+{
+    let mut rest = log;
+    let mut t = tables;
+    let mut at = 0;
+    let mut done = before;
+    while 0 < rest.len() {
+        let s = step(rest, done + 1, out, at, t);
+        let answer = s.answer;
+        if answer.number() != 0 {
+            return Ran {
+                answer,
+                offset: log.len() - rest.len(),
+                done,
+                at,
+                tables: t,
+            };
+        }
+        let used = s.used;
+        let after = s.tables;
+        rest = &rest[used..];
+        at = s.at;
+        t = after;
+        done += 1;
+    }
+    Ran {
+        answer: StepAnswer::Took,
+        offset: log.len(),
+        done,
+        at,
+        tables: t,
+    }
+}
