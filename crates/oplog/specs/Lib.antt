@@ -1,3 +1,5 @@
 pub mod Step
 pub mod Run
 pub mod Border
+pub mod Text
+pub mod Replay

@@ -9,6 +9,7 @@ use laws::refusals;
 use operations::Tables;
 
 pub mod inner;
+pub mod replay;
 
 // Whether a step took its record, or the fault that stopped it.
 pub enum StepAnswer {

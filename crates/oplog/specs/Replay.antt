@@ -1,0 +1,68 @@
+-- A replay over lent buffers: each call goes on from a place of the log and fills a buffer with the next part of the text.
+use mathlib.Core.Bool.{Bool, _&&_}
+use mathlib.Core.List.{List}
+use Prim.Native.Nat.{ℕ, _+_}
+use lib.ListN.{length, drop}
+use lib.Dec.{leb, ltb, eqb}
+use Rattle.laws.specs.Pick.{pick}
+use Rattle.laws.specs.Refusals as no
+use Rattle.ipc.specs.SoundTest.{soundTest}
+use Rattle.line.specs.Line.{endOf, badOf}
+use Rattle.line.specs.Put.{written, putOf}
+use Rattle.line.specs.declared.Written.{Written}
+use Rattle.oplog.specs.Step.{stepNumber, writing}
+use Rattle.oplog.specs.Run.{Ended, runOf}
+use Rattle.oplog.specs.Text.{most}
+use Rattle.oplog.specs.declared.StepAnswer.{StepAnswer}
+use Rattle.oplog.specs.declared.StepAnswer.the-variants.{Took, NoRoom, BadTable}
+use Rattle.oplog.specs.declared.replay.Place.{Place}
+use Rattle.oplog.specs.declared.replay.Part.{Part}
+use Rattle.oplog.specs.declared.Ran.{Ran}
+
+-- a place that a replay of the log can come to: inside the log, no more records than bytes before it, and a sound channel table
+abbrev pub reachable : List ℕ → Place → Bool
+reachable log p = (leb (p .offset) (length log) && leb (p .done) (p .offset)) && soundTest (p .tables .channels)
+
+-- a part of the text and the buffer that has it
+pub record Filled : Type 0 where
+  pub part : Part
+  pub buffer : List ℕ
+
+abbrev pub filled : StepAnswer → ℕ → Place → List ℕ → Filled
+filled a at p out = record { part = record { answer = a; at = at; place = p }; buffer = out }
+
+-- the last line: 0 says that nothing is left of the log, another number is the fault's
+unfoldable pub lastLine : ℕ → ℕ → ℕ → List ℕ
+lastLine number offset done = pick (eqb number no.accepted) (endOf done) (badOf offset number)
+
+-- that line after what stands before `at`, or left for another buffer where it has no room
+unfoldable pub lastOf : List ℕ → ℕ → ℕ → Place → Filled
+lastOf out at number p =
+    writing (putOf out at (lastLine number (p .offset) (p .done))) (filled NoRoom at p (written out at (lastLine number (p .offset) (p .done)))) (λ next.
+    filled Took next p (written out at (lastLine number (p .offset) (p .done))))
+
+-- the same place at another offset
+abbrev pub atOffset : Place → ℕ → Place
+atOffset p offset = record { offset = offset; done = p .done; tables = p .tables }
+
+-- the place where a run ended that began at offset `from`
+abbrev pub placeOf : ℕ → Ran → Place
+placeOf from r = record { offset = from + r .offset; done = r .done; tables = r .tables }
+
+-- what follows from how a run ended: no room for the next line, or the last line
+unfoldable pub endingOf : ℕ → Ended → Filled
+endingOf from r =
+    pick (eqb (stepNumber (r .answer .answer)) no.noRoom)
+    (filled NoRoom (r .answer .at) (placeOf from (r .answer)) (r .buffer))
+    (lastOf (r .buffer) (r .answer .at) (stepNumber (r .answer .answer)) (placeOf from (r .answer)))
+
+abbrev pub ranOf : List ℕ → List ℕ → Place → Ended
+ranOf log out p = runOf (drop (p .offset) log) (p .done) out (p .tables)
+
+-- a place that no replay of this log comes to is refused with 27; a log over 65,536 bytes has one line
+unfoldable pub replayOf : List ℕ → List ℕ → Place → Filled
+replayOf log out p =
+    pick (reachable log p)
+    (pick (ltb most (length log)) (lastOf out 0 no.tooLong (atOffset p most))
+    (endingOf (p .offset) (ranOf log out p)))
+    (filled BadTable 0 p out)
