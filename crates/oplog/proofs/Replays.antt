@@ -20,7 +20,7 @@ use Rattle.operations.specs.declared.Tables.{Tables}
 use Rattle.oplog.specs.Step.{stepNumber, writing, stepOf, stepOut}
 use Rattle.oplog.specs.Run.{Ended, runFrom, runOf}
 use Rattle.oplog.specs.Text.{most}
-use Rattle.oplog.specs.Replay.{reachable, lastLine, lastOf, atOffset, placeOf, endingOf, ranOf, replayOf}
+use Rattle.oplog.specs.Replay.{reachable, lastLine, lastOf, placeOf, endingOf, ranOf, replayOf}
 use Rattle.oplog.specs.declared.StepAnswer.the-variants.{Took, NoRoom, BadTable}
 use Rattle.oplog.specs.declared.Ran.{Ran}
 use Rattle.oplog.specs.declared.replay.Place.{Place}
@@ -38,13 +38,13 @@ module _ (number offset done : ℕ) where
   is-bad e = rw (ne-eqb number 0 e) refl
 
 -- w is what writing it answered, left the buffer then
-module _ (out : List ℕ) (at number : ℕ) (p : Place) (w : Written) (left : List ℕ) (ew : w ≡ putOf out at (lastLine number (p .offset) (p .done)))
-    (el : left ≡ written out at (lastLine number (p .offset) (p .done))) where
-  pub had-room : (next : ℕ) → w ≡ Upto next → (_≡_ {A = Part} (record { answer = Took; at = next; place = p }) (lastOf out at number p .part)) × (left ≡ lastOf out at number p .buffer)
+module _ (out : List ℕ) (at number offset : ℕ) (p : Place) (w : Written) (left : List ℕ) (ew : w ≡ putOf out at (lastLine number offset (p .done)))
+    (el : left ≡ written out at (lastLine number offset (p .done))) where
+  pub had-room : (next : ℕ) → w ≡ Upto next → (_≡_ {A = Part} (record { answer = Took; at = next; place = p }) (lastOf out at number offset p .part)) × (left ≡ lastOf out at number offset p .buffer)
   unfolding lastOf writing
   had-room next e = (rw (← ew, e) refl, rw (← ew, e) el)
 
-  pub crowded : w ≡ Crowded → (_≡_ {A = Part} (record { answer = NoRoom; at = at; place = p }) (lastOf out at number p .part)) × (left ≡ lastOf out at number p .buffer)
+  pub crowded : w ≡ Crowded → (_≡_ {A = Part} (record { answer = NoRoom; at = at; place = p }) (lastOf out at number offset p .part)) × (left ≡ lastOf out at number offset p .buffer)
   unfolding lastOf writing
   crowded e = (rw (← ew, e) refl, rw (← ew, e) el)
 
@@ -85,7 +85,7 @@ module _ (log out : List ℕ) (p : Place) (q : Bool) (es : q ≡ soundTest (p .t
     pub sound-test : soundTest (p .tables .channels) ≡ true
     sound-test = rw (← es) (and-right placed q (not-false tested e))
 
-    pub too-long : {r : Part} {left : List ℕ} → most < length log → r ≡ lastOf out 0 no.tooLong (atOffset p most) .part → left ≡ lastOf out 0 no.tooLong (atOffset p most) .buffer
+    pub too-long : {r : Part} {left : List ℕ} → most < length log → r ≡ lastOf out 0 no.tooLong most p .part → left ≡ lastOf out 0 no.tooLong most p .buffer
         → (r ≡ replayOf log out p .part) × (left ≡ replayOf log out p .buffer)
     unfolding replayOf pick
     too-long l er el = (rw (reaches, lt-ltb most (length log) l) er, rw (reaches, lt-ltb most (length log) l) el)
@@ -105,8 +105,8 @@ module _ (log out : List ℕ) (p : Place) (q : Bool) (es : q ≡ soundTest (p .t
       unfolding endingOf pick
       no-room n = rw (← ending) (rw (← how .0, ← how .1, eq-eqb (stepNumber (r .answer)) no.noRoom n) (refl, refl))
 
-      pub ends : {f : Part} {o : List ℕ} → (stepNumber (r .answer) ≡ no.noRoom → ⊥) → f ≡ lastOf left (r .at) (stepNumber (r .answer)) (placeOf (p .offset) r) .part
-          → o ≡ lastOf left (r .at) (stepNumber (r .answer)) (placeOf (p .offset) r) .buffer
+      pub ends : {f : Part} {o : List ℕ} → (stepNumber (r .answer) ≡ no.noRoom → ⊥) → f ≡ lastOf left (r .at) (stepNumber (r .answer)) (p .offset + r .offset) (placeOf (p .offset) r) .part
+          → o ≡ lastOf left (r .at) (stepNumber (r .answer)) (p .offset + r .offset) (placeOf (p .offset) r) .buffer
           → (f ≡ replayOf log out p .part) × (o ≡ replayOf log out p .buffer)
       unfolding endingOf pick
       ends n ef eo = rw (← ending) (rw (← how .0, ← how .1, ne-eqb (stepNumber (r .answer)) no.noRoom n) (ef, eo))

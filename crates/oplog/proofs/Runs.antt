@@ -64,18 +64,18 @@ step-kept log out number at t s =
 
 -- ---- the turns
 module _ (all : ℕ) (rest : List ℕ) (done : ℕ) (out : List ℕ) (at : ℕ) (t : Tables) where
-  finish : (k : ℕ) → length rest ≤ 0 → runFrom all k rest done out at t ≡ ended Took all done at t out
+  pub finish : (k : ℕ) → length rest ≤ 0 → runFrom all k rest done out at t ≡ ended Took all done at t out
   unfolding runFrom pick
   finish zero h = refl
   finish (suc k) h = rw (le-ltb 0 (length rest) h) refl
 
   module _ (k : ℕ) (h : 0 < length rest) where
-    turn : stepNumber (stepOf rest (done + 1) out at t .answer) ≡ 0 →
+    pub turn : stepNumber (stepOf rest (done + 1) out at t .answer) ≡ 0 →
         runFrom all (suc k) rest done out at t ≡ runFrom all k (drop (stepOf rest (done + 1) out at t .used) rest) (done + 1) (stepOut rest (done + 1) out at t) (stepOf rest (done + 1) out at t .at) (stepOf rest (done + 1) out at t .tables)
     unfolding runFrom pick
     turn e = rw (lt-ltb 0 (length rest) h, eq-eqb (stepNumber (stepOf rest (done + 1) out at t .answer)) 0 e) refl
 
-    refuse : (stepNumber (stepOf rest (done + 1) out at t .answer) ≡ 0 → ⊥) →
+    pub refuse : (stepNumber (stepOf rest (done + 1) out at t .answer) ≡ 0 → ⊥) →
         runFrom all (suc k) rest done out at t ≡ ended (stepOf rest (done + 1) out at t .answer) (all - length rest) done at t (stepOut rest (done + 1) out at t)
     unfolding runFrom pick
     refuse e = rw (lt-ltb 0 (length rest) h, ne-eqb (stepNumber (stepOf rest (done + 1) out at t .answer)) 0 e) refl

@@ -36,14 +36,10 @@ unfoldable pub lastLine : ℕ → ℕ → ℕ → List ℕ
 lastLine number offset done = pick (eqb number no.accepted) (endOf done) (badOf offset number)
 
 -- that line after what stands before `at`, or left for another buffer where it has no room
-unfoldable pub lastOf : List ℕ → ℕ → ℕ → Place → Filled
-lastOf out at number p =
-    writing (putOf out at (lastLine number (p .offset) (p .done))) (filled NoRoom at p (written out at (lastLine number (p .offset) (p .done)))) (λ next.
-    filled Took next p (written out at (lastLine number (p .offset) (p .done))))
-
--- the same place at another offset
-abbrev pub atOffset : Place → ℕ → Place
-atOffset p offset = record { offset = offset; done = p .done; tables = p .tables }
+unfoldable pub lastOf : List ℕ → ℕ → ℕ → ℕ → Place → Filled
+lastOf out at number offset p =
+    writing (putOf out at (lastLine number offset (p .done))) (filled NoRoom at p (written out at (lastLine number offset (p .done)))) (λ next.
+    filled Took next p (written out at (lastLine number offset (p .done))))
 
 -- the place where a run ended that began at offset `from`
 abbrev pub placeOf : ℕ → Ran → Place
@@ -54,7 +50,7 @@ unfoldable pub endingOf : ℕ → Ended → Filled
 endingOf from r =
     pick (eqb (stepNumber (r .answer .answer)) no.noRoom)
     (filled NoRoom (r .answer .at) (placeOf from (r .answer)) (r .buffer))
-    (lastOf (r .buffer) (r .answer .at) (stepNumber (r .answer .answer)) (placeOf from (r .answer)))
+    (lastOf (r .buffer) (r .answer .at) (stepNumber (r .answer .answer)) (from + r .answer .offset) (placeOf from (r .answer)))
 
 abbrev pub ranOf : List ℕ → List ℕ → Place → Ended
 ranOf log out p = runOf (drop (p .offset) log) (p .done) out (p .tables)
@@ -63,6 +59,6 @@ ranOf log out p = runOf (drop (p .offset) log) (p .done) out (p .tables)
 unfoldable pub replayOf : List ℕ → List ℕ → Place → Filled
 replayOf log out p =
     pick (reachable log p)
-    (pick (ltb most (length log)) (lastOf out 0 no.tooLong (atOffset p most))
+    (pick (ltb most (length log)) (lastOf out 0 no.tooLong most p)
     (endingOf (p .offset) (ranOf log out p)))
     (filled BadTable 0 p out)

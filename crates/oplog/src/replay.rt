@@ -57,11 +57,11 @@ fn write_last(out: &mut [u8], at: usize, number: u8, offset: usize, done: u64) -
 }
 
 // The last line where it has room.
-fn last(out: &mut [u8], at: usize, number: u8, place: Place) -> Part
-    ensures answer { λ r. ⌜ r ≡ lastOf (now (out .entry)) at number place .part ⌝ }
-    ensures buffer { λ _. ⌜ now (out .exit) ≡ lastOf (now (out .entry)) at number place .buffer ⌝ }
+fn last(out: &mut [u8], at: usize, number: u8, offset: usize, place: Place) -> Part
+    ensures answer { λ r. ⌜ r ≡ lastOf (now (out .entry)) at number offset place .part ⌝ }
+    ensures buffer { λ _. ⌜ now (out .exit) ≡ lastOf (now (out .entry)) at number offset place .buffer ⌝ }
 {
-    match write_last(out, at, number, place.offset, place.done) {
+    match write_last(out, at, number, offset, place.done) {
         Written::Upto(next) => Part {
             answer: StepAnswer::Took,
             at: next,
@@ -93,19 +93,15 @@ pub fn replay(log: &[u8], out: &mut [u8], from: Place) -> Part
         };
     }
     if log.len() > MOST {
-        let place = Place {
-            offset: MOST,
-            done,
-            tables,
-        };
-        return last(out, 0, refusals::TOO_LONG, place);
+        return last(out, 0, refusals::TOO_LONG, MOST, from);
     }
     let ran = inner::run(&log[offset..], done, out, tables);
     let answer = ran.answer;
     let number = answer.number();
     let after = ran.tables;
+    let reached = offset + ran.offset;
     let place = Place {
-        offset: offset + ran.offset,
+        offset: reached,
         done: ran.done,
         tables: after,
     };
@@ -116,5 +112,5 @@ pub fn replay(log: &[u8], out: &mut [u8], from: Place) -> Part
             place,
         };
     }
-    last(out, ran.at, number, place)
+    last(out, ran.at, number, reached, place)
 }

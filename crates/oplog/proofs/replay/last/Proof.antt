@@ -17,13 +17,13 @@ same-length : tie.Need-same-length
 same-length c = search needs
 
 returns : tie.Need-returns
-returns c = had-room _ _ _ _ _ _ (c .before .before .before .before .before .write-last .ensures .0) (c .before .before .before .before .before .write-last .ensures .1) _ (c .before .next .given .1)
+returns c = had-room _ _ _ _ _ _ _ (c .before .before .before .before .before .write-last .ensures .0) (c .before .before .before .before .before .write-last .ensures .1) _ (c .before .next .given .1)
 
 same-length-2 : tie.Need-same-length-2
 same-length-2 c = search needs
 
 returns-2 : tie.Need-returns-2
-returns-2 c = crowded _ _ _ _ _ _ (c .before .before .before .before .write-last .ensures .0) (c .before .before .before .before .write-last .ensures .1) (c .enum-told .given .1)
+returns-2 c = crowded _ _ _ _ _ _ _ (c .before .before .before .before .write-last .ensures .0) (c .before .before .before .before .write-last .ensures .1) (c .enum-told .given .1)
 
 pub last-spec : {M : Type 1} → statement M
 last-spec =

@@ -41,7 +41,7 @@ part-run-end : tie.Need-part-run-end
 part-run-end c = search needs
 
 run-requires : tie.Need-run-requires
-run-requires c κs = 
+run-requires c κs =
     let l = c .before .before .if2 .left in
     let i = inside (c .before .before .before .before .before .before .before .before .before .args .log .now) (c .before .before .before .before .before .before .before .before .before .args .out .now) (c .before .before .before .before .before .before .before .before .before .args .from) _ (c .before .before .before .before .sound .ensures) (c .before .before .before .if1 .left) in
     let d = counted (c .before .before .before .before .before .before .before .before .before .args .log .now) (c .before .before .before .before .before .before .before .before .before .args .out .now) (c .before .before .before .before .before .before .before .before .before .args .from) _ (c .before .before .before .before .sound .ensures) (c .before .before .before .if1 .left) in
@@ -51,8 +51,8 @@ run-requires c κs =
 number-requires : tie.Need-number-requires
 number-requires c κs = search needs
 
-add-t15 : tie.Need-add-t15
-add-t15 c = 
+add-reached : tie.Need-add-reached
+add-reached c =
     let a = c .before .before .before .before .before .before .before .before .before .before .before .before .before .before .before .args in
     let l = c .before .before .before .before .before .before .before .before .if2 .left in
     let i = inside (c .before .before .before .before .before .before .before .before .before .before .before .before .before .before .before .args .log .now) (c .before .before .before .before .before .before .before .before .before .before .before .before .before .before .before .args .out .now) (c .before .before .before .before .before .before .before .before .before .before .before .before .before .before .before .args .from) _ (c .before .before .before .before .before .before .before .before .before .before .sound .ensures) (c .before .before .before .before .before .before .before .before .before .if1 .left) in
@@ -74,7 +74,7 @@ same-length-3 : tie.Need-same-length-3
 same-length-3 c = search needs
 
 returns-4 : tie.Need-returns-4
-returns-4 c = 
+returns-4 c =
     let n = c .before .before .before .before .before .before .before .number .ensures in
     ends (c .before .before .before .before .before .before .before .before .before .before .before .before .before .before .before .before .before .before .before .before .args .log .now) (c .before .before .before .before .before .before .before .before .before .before .before .before .before .before .before .before .before .before .before .before .args .out .now) (c .before .before .before .before .before .before .before .before .before .before .before .before .before .before .before .before .before .before .before .before .args .from) _ (c .before .before .before .before .before .before .before .before .before .before .before .before .before .before .before .sound .ensures) (c .before .before .before .before .before .before .before .before .before .before .before .before .before .before .if1 .left) (c .before .before .before .before .before .before .before .before .before .before .before .before .before .if2 .left) (c .before .before .before .before .before .before .before .before .before .before .run .result) _ (c .before .before .before .before .before .before .before .before .before .before .run .ensures .0) (c .before .before .before .before .before .before .before .before .before .before .run .ensures .1) (λ z. c .before .before .before .before .if3 .left (n ∙ z))
     (rw (← n) (c .before .before .last2 .ensures .0)) (rw (← n) (c .before .before .last2 .ensures .1))
@@ -93,7 +93,7 @@ replay-spec =
     part-run-end
     run-requires
     number-requires
-    add-t15
+    add-reached
     same-length-2
     returns-3
     last-requires-2
