@@ -1,0 +1,96 @@
+-- Every call on a channel table, with its operands; what it answers and what table it leaves, by the rules of `ipc`.
+use mathlib.Core.Bool.{Bool}
+use mathlib.Core.List.{List, [], _∷_}
+use Prim.Native.Nat.{ℕ}
+use Rattle.cap.specs.declared.CapId.{CapId}
+use Rattle.cap.specs.declared.slot.Slot.{Slot}
+use Rattle.ipc.specs.Counts.{noteAuthorityOf, noteStateOf}
+use Rattle.ipc.specs.Create.{createOf}
+use Rattle.ipc.specs.Send.{sendOf}
+use Rattle.ipc.specs.Receive.{recvOf, parkOf}
+use Rattle.ipc.specs.Observe.{queuedOf, holdersOf, refusalsOf}
+use Rattle.ipc.specs.Holds.{registerOf, releaseOf}
+use Rattle.ipc.specs.Revoke.{revokeOf}
+use Rattle.ipc.specs.Waiters.{clearOf}
+use Rattle.ipc.specs.declared.state.Message.{Message}
+use Rattle.ipc.specs.declared.state.TaskId.{TaskId}
+use Rattle.ipc.specs.declared.state.Waiter.{Waiter}
+use Rattle.ipc.specs.declared.state.Table.{Table}
+use Rattle.ipc.specs.declared.answers.CreateAnswer.{CreateAnswer}
+use Rattle.ipc.specs.declared.answers.SendAnswer.{SendAnswer}
+use Rattle.ipc.specs.declared.answers.RecvAnswer.{RecvAnswer}
+use Rattle.ipc.specs.declared.answers.ParkAnswer.{ParkAnswer}
+use Rattle.ipc.specs.declared.answers.QueuedAnswer.{QueuedAnswer}
+use Rattle.ipc.specs.declared.answers.HoldersAnswer.{HoldersAnswer}
+use Rattle.ipc.specs.declared.answers.RegisterAnswer.{RegisterAnswer}
+use Rattle.ipc.specs.declared.answers.ReleaseAnswer.{ReleaseAnswer}
+use Rattle.ipc.specs.declared.answers.RevokeAnswer.{RevokeAnswer}
+use Rattle.ipc.specs.declared.answers.ClearAnswer.{ClearAnswer}
+use Rattle.ipc.specs.declared.answers.NoteAnswer.{NoteAnswer}
+use Rattle.ipc.specs.declared.answers.RefusalsAnswer.{RefusalsAnswer}
+
+-- a register has a list as words, any length; a release has exactly four places
+pub data Call : Type 0 where
+  create : Bool → Call
+  send : CapId → Message → Call
+  receive : CapId → Call
+  park : CapId → TaskId → Call
+  queued : CapId → Call
+  revoke : CapId → Call
+  register : List ℕ → Call
+  release : Slot → Slot → Slot → Slot → Call
+  holders : CapId → Call
+  clear : TaskId → Call
+  noteAuthority : Call
+  noteState : Call
+  counts : Call
+
+-- the answer of each, in the order of the calls; a release's four waiters stand beside its answer, and both note calls have one kind
+pub data Answer : Type 0 where
+  created : CreateAnswer → Answer
+  sent : SendAnswer → Answer
+  received : RecvAnswer → Answer
+  parked : ParkAnswer → Answer
+  measured : QueuedAnswer → Answer
+  revoked : RevokeAnswer → Answer
+  registered : RegisterAnswer → Answer
+  released : ReleaseAnswer → List Waiter → Answer
+  held : HoldersAnswer → Answer
+  cleared : ClearAnswer → Answer
+  noted : NoteAnswer → Answer
+  counted : RefusalsAnswer → Answer
+
+-- the four places of a release
+abbrev pub fourSlots : Slot → Slot → Slot → Slot → List Slot
+fourSlots x y z v = x ∷ y ∷ z ∷ v ∷ []
+
+unfoldable pub answer : Table → Call → Answer
+answer t (create ephemeral) = created (createOf t ephemeral .answer)
+answer t (send c m) = sent (sendOf t c m .answer)
+answer t (receive c) = received (recvOf t c .answer)
+answer t (park c task) = parked (parkOf t c task .answer)
+answer t (queued c) = measured (queuedOf t c)
+answer t (revoke c) = revoked (revokeOf t c .answer)
+answer t (register words) = registered (registerOf t words .answer)
+answer t (release x y z v) = released (releaseOf t (fourSlots x y z v) .answer) (releaseOf t (fourSlots x y z v) .waiters)
+answer t (holders c) = held (holdersOf t c)
+answer t (clear task) = cleared (clearOf t task .answer)
+answer t noteAuthority = noted (noteAuthorityOf t .answer)
+answer t noteState = noted (noteStateOf t .answer)
+answer t counts = counted (refusalsOf t)
+
+-- `queued`, holders and counts only look
+unfoldable pub after : Table → Call → Table
+after t (create ephemeral) = createOf t ephemeral .table
+after t (send c m) = sendOf t c m .table
+after t (receive c) = recvOf t c .table
+after t (park c task) = parkOf t c task .table
+after t (queued c) = t
+after t (revoke c) = revokeOf t c .table
+after t (register words) = registerOf t words .table
+after t (release x y z v) = releaseOf t (fourSlots x y z v) .table
+after t (holders c) = t
+after t (clear task) = clearOf t task .table
+after t noteAuthority = noteAuthorityOf t .table
+after t noteState = noteStateOf t .table
+after t counts = t
