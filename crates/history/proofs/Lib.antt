@@ -1,1 +1,4 @@
 pub mod Kept
+pub mod Shrinks
+pub mod Steps
+pub mod Tidy
