@@ -64,6 +64,11 @@ module _ (w : World) (b : Bool) (k s r : ℕ) (x : Creates (w .table) b k s r (c
 abbrev numbered : World → Creation → World
 numbered w x = ifCreated (x .answer) (settled w (x .table)) (λ ids. born w (x .table) (ids .send))
 
+-- a creation that succeeds
+pub create-births : (w : World) (b : Bool) (k s r : ℕ) → Creates (w .table) b k s r (createOf (w .table) b) → Births w b k s r (step w (create b))
+unfolding step answer after onCreation ifCreated
+create-births w b k s r x = rw (x .answer) (born-births w b k s r x)
+
 create-step : (w : World) (b : Bool) → Sound (w .table) → StepWays w (create b) (step w (create b))
 unfolding step answer after onCreation ifCreated
 create-step w b σ = by (create-ways (w .table) b σ)
@@ -74,7 +79,7 @@ create-step w b σ = by (create-ways (w .table) b σ)
     by : CreateWays (w .table) b (createOf (w .table) b) → StepWays w (create b) (step w (create b))
     by (no-mailbox _ q) = same _ q (unchanged (w .table)) refl
     by (no-endpoint _ _ _ q) = same _ q (unchanged (w .table)) refl
-    by (created k s r y) = births b k s r refl (rw (y .answer) (born-births w b k s r y))
+    by (created k s r x) = births b k s r refl (create-births w b k s r x)
 
 -- ---- every call
 register-steady : (t : Table) (words : List ℕ) → Sound t → Steady t (registerOf t words .table)

@@ -1,3 +1,5 @@
 pub mod Calls
 pub mod World
 pub mod Channels
+pub mod Numbers
+pub mod Ids

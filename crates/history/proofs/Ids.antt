@@ -1,0 +1,189 @@
+-- Demand 3's first sentence, `ids-keep`, with `ids-open`, `ids-end` and `one-channel` beside it. The invariant is `Tidy`: an id that opens
+-- has the generation of the channel that it opens; and at an endpoint where channel n's id was issued, what opens is channel n or a later
+-- one, `Since`. Of fewer than 65,535 later ones none has channel n's generation. Assumes nothing.
+use mathlib.Core.Path.{_≡_, refl, sym, ap, subst, _∙_}
+use mathlib.Core.Bool.{Bool, true, false}
+use mathlib.Core.List.{List, [], _∷_}
+use mathlib.Core.Logic.{_⊎_, inl, inr, ⊎-elim}
+use Prim.Native.Nat.{ℕ, suc, _+_, _-_, _*_, _%_, _≤_, _<_}
+use native.Mathlib.Omega.{arith}
+use Rattle.laws.proofs.Bools.{same?}
+use Rattle.cap.specs.Id.{idOf, indexOf, generationOf}
+use Rattle.cap.specs.Rights.{sendRight, receiveRight}
+use Rattle.cap.specs.declared.CapId.{CapId}
+use Rattle.cap.specs.declared.CapRights.{CapRights}
+use Rattle.cap.specs.declared.slot.Slot.{Slot}
+use Rattle.cap.proofs.Ids.{index-of-id, generation-of-id}
+use Rattle.ipc.specs.Sound.{Sound}
+use Rattle.ipc.specs.Create.{createOf}
+use Rattle.ipc.specs.Opening.{openingOf, eitherOf}
+use Rattle.ipc.specs.declared.state.Channel.{Channel}
+use Rattle.ipc.specs.declared.state.Table.{Table}
+use Rattle.ipc.specs.declared.opening.Opening.{Opening}
+use Rattle.ipc.specs.declared.opening.Opening.the-variants.{Opens, Shut}
+use Rattle.ipc.proofs.Openings.{opens-live, either-cases, hold-opens}
+use Rattle.ipc.proofs.OtherOpenings.{any-is}
+use Rattle.ipc.proofs.AfterCreate.{CreateWays, no-mailbox, no-endpoint, created, create-ways}
+use Rattle.history.specs.Calls.{Call, create, answer, after}
+use Rattle.history.specs.World.{World, settled, step, run, Reached}
+use Rattle.history.specs.Channels.{Houses}
+use Rattle.history.specs.Ids.{Makes, IdOf, OpensOnly, IdsKeep, OneHouse, OpensNow, IdsOpen, IdsEnd}
+use Rattle.history.proofs.Shrinks.{lived}
+use Rattle.history.proofs.Kept.{after-sound}
+use Rattle.history.proofs.Steps.{Births, StepWays, settles, births, create-births, step-ways}
+use Rattle.history.proofs.Tidy.{genOf, Tidy, Since, Grows, births-issues, step-grows, run-grows, reached-tidy, one-house}
+use Rattle.history.proofs.Reach.{reaches}
+
+pub one-channel : OneHouse
+one-channel w r = one-house r
+
+-- ---- the creation
+-- where it put the channel, and the ids by their ends
+pub record Placed (w : World) (b : Bool) (ids : Channel) : Type 0 where
+  pub box : ℕ
+  pub send : ℕ
+  pub recv : ℕ
+  pub births : Births w b box send recv (step w (create b))
+  pub send-id : ids .send ≡ idOf send (w .table .«next_gen»)
+  pub recv-id : ids .recv ≡ idOf recv (w .table .«next_gen»)
+
+pub placed : (w : World) (b : Bool) (n : ℕ) (ids : Channel) → Sound (w .table) → Makes w b n ids → Placed w b ids
+unfolding answer
+placed w b n ids σ m = by (create-ways (w .table) b σ)
+  where
+    by : CreateWays (w .table) b (createOf (w .table) b) → Placed w b ids
+    by (no-mailbox _ q) = let e = m .answers in let z : _≡_ {A = ℕ} 0 1 = cc in absurd (omega arith)
+    by (no-endpoint _ _ _ q) = let e = m .answers in let z : _≡_ {A = ℕ} 0 1 = cc in absurd (omega arith)
+    by (created k s r x) =
+        let e = m .answers in
+        let a = x .answer in
+        record { box = k; send = s; recv = r; births = create-births w b k s r x; send-id = cc; recv-id = cc }
+
+-- ---- what is known of an id once it is issued
+-- it has its channel's generation, and what opens at its endpoint is its channel or a later one
+record Issued (n : ℕ) (c : CapId) (v : World) : Type 0 where
+  tidy : Tidy v
+  first : 1 ≤ n
+  past : n ≤ v .made
+  generation : generationOf c ≡ genOf n
+  since : Since n (indexOf c) v
+
+module _ (w : World) (b : Bool) (n : ℕ) (ids : Channel) (τ : Tidy w) (m : Makes w b n ids) (p : Placed w b ids) where
+  abbrev g : ℕ
+  g = w .table .«next_gen»
+
+  issued-at : (i : ℕ) (c : CapId) → i < 65536 → (i ≡ p .send) ⊎ (i ≡ p .recv) → c ≡ idOf i g → Issued n c (step w (create b))
+  issued-at i c l at e =
+      let h = p .births .made in
+      let y = m .number in
+      record {
+        tidy = step-grows w (create b) τ .tidy;
+        first = omega arith;
+        past = omega arith;
+        generation = ap generationOf e ∙ generation-of-id i g l ∙ τ .next ∙ ap genOf (sym (m .number));
+        since = rw (e, index-of-id i g l, m .number) (births-issues w (step w (create b)) b (p .box) (p .send) (p .recv) τ (p .births) i at);
+      }
+
+  issued-by : (c : CapId) → IdOf ids c → Issued n c (step w (create b))
+  issued-by c is =
+      let f = p .births .makes .took in
+      let z = τ .sound .sizes in
+      ⊎-elim (λ e. issued-at (p .send) c (omega arith) (inl refl) (e ∙ p .send-id)) (λ e. issued-at (p .recv) c (omega arith) (inr refl) (e ∙ p .recv-id)) is
+
+  opens-now : OpensNow (step w (create b)) n ids
+  opens-now =
+      let β = p .births in
+      let o = β .makes .openings in
+      let f = β .makes .took in
+      record {
+        box = p .box;
+        houses = record { live = rw (β .table) (β .makes .live); tenant = β .tenant ∙ sym (m .number) };
+        sends = rw (β .table, p .send-id) (o .sends);
+        sends-only = rw (β .table, p .send-id) (o .sends-only);
+        receives = rw (β .table, p .recv-id) (o .receives);
+        receives-only = rw (β .table, p .recv-id) (o .receives-only);
+        differ = λ e. let z : p .send + 65536 * g ≡ p .recv + 65536 * g = ap (λ (c : CapId). c .raw) (sym (p .send-id) ∙ e ∙ p .recv-id) in omega arith;
+      }
+
+issued : (w : World) (b : Bool) (n : ℕ) (ids : Channel) (c : CapId) → Reached w → Makes w b n ids → IdOf ids c → Issued n c (step w (create b))
+issued w b n ids c reached m = let τ = reached-tidy reached in issued-by w b n ids τ m (placed w b n ids (τ .sound) m) c
+
+-- and so after any calls
+issued-on : (n : ℕ) (c : CapId) (v : World) (later : List Call) → Issued n c v → Issued n c (run v later)
+issued-on n c v later i =
+    let u = run-grows v later (i .tidy) in
+    let h = u .more in
+    let y = i .past in
+    record { tidy = u .tidy; first = i .first; past = omega arith; generation = i .generation; since = u .since n (indexOf c) (i .past) (i .since) }
+
+-- ---- fewer than 65,535 later creations: no other channel has this generation
+once : (n x : ℕ) → 1 ≤ n → n ≤ x → x < n + 65535 → genOf x ≡ genOf n → x ≡ n
+once n x some up few e = omega arith
+
+module _ (n : ℕ) (c : CapId) (v : World) (i : Issued n c v) (few : v .made < n + 65535) where
+  abbrev σ : Sound (v .table)
+  σ = i .tidy .sound
+
+  houses-by : (need : CapRights) (k : ℕ) → openingOf (v .table) c need ≡ Opens k → Houses v n k
+  houses-by need k e =
+      let l = opens-live (v .table) c need k σ e in
+      let up = i .tidy .last k l in
+      record { live = l; tenant = once n (v .tenant k) (i .first) (i .since c need k refl e) (omega arith) (sym (i .tidy .generation c need k e) ∙ i .generation) }
+
+  houses-either : (k : ℕ) → eitherOf (v .table) c ≡ Opens k → Houses v n k
+  houses-either k e = ⊎-elim (houses-by sendRight k) (houses-by receiveRight k) (either-cases (v .table) c k e)
+
+  opens-only : OpensOnly v n c
+  opens-only =
+      record {
+        by = houses-by;
+        either = houses-either;
+        any = λ k e. houses-either k (sym (any-is (v .table) c σ) ∙ e);
+        hold = λ x h k e. houses-by sendRight k (rw (← h) (hold-opens (v .table) x k e .1));
+      }
+
+-- ---- the demand
+pub ids-keep : IdsKeep
+ids-keep w reached b n ids m later few c is =
+    let i = issued-on n c (step w (create b)) later (issued w b n ids c reached m is) in
+    let o = opens-only n c _ i few in
+    (o, reaches _ n c (i .tidy .sound) o)
+
+pub ids-open : IdsOpen
+ids-open w reached b n ids m = let τ = reached-tidy reached in opens-now w b n ids τ m (placed w b n ids (τ .sound) m)
+
+-- ---- a channel that lives no more
+-- its number is not given again
+step-gone : (w : World) (c : Call) (n : ℕ) → Tidy w → n ≤ w .made → ((k : ℕ) → Houses w n k → ⊥) → (k : ℕ) → Houses (step w c) n k → ⊥
+step-gone w c n τ few gone = by (step-ways w c (τ .sound))
+  where
+    by : {v : World} → StepWays w c v → (k : ℕ) → Houses v n k → ⊥
+    by (settles h q) k x =
+        let y : Houses (settled w (after (w .table) c)) n k = rw q at x in
+        gone k (record { live = lived (w .table) (after (w .table) c) (τ .sound) (after-sound (w .table) c (τ .sound)) h k (y .live); tenant = y .tenant })
+    by {v} (births b k s r _ β) j x =
+        ⊎-elim (λ e. let y = x .tenant in let z : v .tenant j ≡ suc (w .made) = ap (v .tenant) e ∙ β .tenant in omega arith)
+        (λ ne. gone j (record { live = sym (β .makes .others j ne .live) ∙ rw (← β .table) (x .live); tenant = sym (β .others j ne) ∙ x .tenant }))
+        (same? j k)
+
+run-gone : (w : World) (cs : List Call) (n : ℕ) → Tidy w → n ≤ w .made → ((k : ℕ) → Houses w n k → ⊥) → (k : ℕ) → Houses (run w cs) n k → ⊥
+unfolding run
+run-gone w [] n τ few gone = gone
+run-gone w (c ∷ cs) n τ few gone =
+    let a = step-grows w c τ in let h = a .more in run-gone (step w c) cs n (a .tidy) (omega arith) (step-gone w c n τ few gone)
+
+pub ids-end : IdsEnd
+ids-end w reached b n ids m some later gone few c is need = by (openingOf (u .table) c need) refl
+  where
+    v : World
+    v = run (step w (create b)) some
+
+    u : World
+    u = run v later
+
+    at : Issued n c v
+    at = issued-on n c (step w (create b)) some (issued w b n ids c reached m is)
+
+    by : (o : Opening) → openingOf (u .table) c need ≡ o → openingOf (u .table) c need ≡ Shut
+    by Shut e = e
+    by (Opens k) e = absurd (run-gone v later n (at .tidy) (at .past) gone k (opens-only n c u (issued-on n c v later at) few .by need k e))
