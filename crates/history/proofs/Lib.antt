@@ -4,3 +4,4 @@ pub mod Steps
 pub mod Tidy
 pub mod Reach
 pub mod Ids
+pub mod Return
