@@ -5,3 +5,5 @@ pub mod Tidy
 pub mod Reach
 pub mod Ids
 pub mod Return
+pub mod Refusals
+pub mod Public

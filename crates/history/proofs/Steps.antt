@@ -61,7 +61,7 @@ module _ (w : World) (b : Bool) (k s r : ℕ) (x : Creates (w .table) b k s r (c
   born-births = record { makes = x; table = refl; made = refl; tenant = rw (named, eq-eqb k k refl); others = λ j ne. rw (named, ne-eqb j k ne) }
 
 -- what a creation makes of a world
-abbrev numbered : World → Creation → World
+abbrev pub numbered : World → Creation → World
 numbered w x = ifCreated (x .answer) (settled w (x .table)) (λ ids. born w (x .table) (ids .send))
 
 -- a creation that succeeds

@@ -3,3 +3,5 @@ pub mod World
 pub mod Channels
 pub mod Numbers
 pub mod Ids
+pub mod Refusals
+pub mod Public

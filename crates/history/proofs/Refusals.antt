@@ -1,0 +1,185 @@
+-- What a refusal of a run changes, `refusals-count`, and what every call does to the counts, `counts-told`. Assumes nothing.
+use mathlib.Core.Path.{_≡_, refl, sym, ap, subst, _∙_}
+use mathlib.Core.Bool.{Bool, true, false}
+use mathlib.Core.List.{List}
+use Prim.Native.Nat.{ℕ}
+use Rattle.laws.specs.Pick.{pick}
+use Rattle.laws.specs.Refusals as no
+use Rattle.cap.specs.Rights.{sendRight}
+use Rattle.cap.specs.declared.CapId.{CapId}
+use Rattle.cap.specs.declared.slot.Slot.{Slot}
+use Rattle.ipc.specs.State.{withRefusals}
+use Rattle.ipc.specs.Sound.{Sound}
+use Rattle.ipc.specs.Answers.{createNumber, sendNumber, recvNumber, parkNumber, queuedNumber, revokeNumber, registerNumber, holdersNumber}
+use Rattle.ipc.specs.Create.{createOf}
+use Rattle.ipc.specs.Send.{sendOf}
+use Rattle.ipc.specs.Receive.{recvOf, parkOf}
+use Rattle.ipc.specs.Observe.{queuedOf, holdersOf}
+use Rattle.ipc.specs.Opening.{openingOf, eitherOf}
+use Rattle.ipc.specs.Holds.{registerOf, releaseOf}
+use Rattle.ipc.specs.Revoke.{revokeOf}
+use Rattle.ipc.specs.Views.{countsBy}
+use Rattle.ipc.specs.Waiters.{clearOf}
+use Rattle.ipc.specs.declared.state.Message.{Message}
+use Rattle.ipc.specs.declared.state.TaskId.{TaskId}
+use Rattle.ipc.specs.declared.state.Table.{Table}
+use Rattle.ipc.specs.declared.answers.Creation.{Creation}
+use Rattle.ipc.specs.declared.answers.Sending.{Sending}
+use Rattle.ipc.specs.declared.answers.Receiving.{Receiving}
+use Rattle.ipc.specs.declared.answers.Parking.{Parking}
+use Rattle.ipc.specs.declared.answers.Registering.{Registering}
+use Rattle.ipc.specs.declared.answers.Revoking.{Revoking}
+use Rattle.ipc.specs.declared.opening.Opening.{Opening}
+use Rattle.ipc.specs.declared.opening.Opening.the-variants.{Opens, Shut}
+use Rattle.ipc.proofs.Looks.{queued-says, queued-refused, holders-says, holders-refused}
+use Rattle.ipc.proofs.AfterCreate as creates
+use Rattle.ipc.proofs.AfterSend as sends
+use Rattle.ipc.proofs.AfterReceive as receives
+use Rattle.ipc.proofs.AfterPark as parks
+use Rattle.ipc.proofs.AfterRegister as registers
+use Rattle.ipc.proofs.AfterReleaseAll.{released-in}
+use Rattle.ipc.proofs.AfterRevoke as revokes
+use Rattle.ipc.proofs.AfterClear.{clear-clears}
+use Rattle.ipc.proofs.AfterCounts.{send-counts, recv-counts, park-counts, revoke-counts}
+use Rattle.history.specs.Calls.{Call, create, send, receive, park, queued, revoke, register, release, holders, clear, noteAuthority, noteState, counts, fourSlots, answer, after}
+use Rattle.history.specs.Numbers.{numberOf}
+use Rattle.history.specs.World.{World, ifCreated, onCreation, settled, step, Reached}
+use Rattle.history.specs.Refusals.{listed, countsAfter, Refused, RefusalsCount, CountsTold}
+use Rattle.history.proofs.Kept.{step-table, reached-sound}
+use Rattle.history.proofs.Steps.{numbered}
+
+-- ---- by call: a refusal's number is listed, and its table is the one before but for the counts
+record Refuses (t : Table) (call : Call) (n : ℕ) (u : Table) : Type 0 where
+  given : listed call n ≡ true
+  only : u ≡ withRefusals t (countsAfter call n (t .refusals))
+
+module _ (t : Table) (σ : Sound t) where
+  send-refuses : (c : CapId) (m : Message) → (sendNumber (sendOf t c m .answer) ≡ no.accepted → ⊥) → Refuses t (send c m) (sendNumber (sendOf t c m .answer)) (sendOf t c m .table)
+  unfolding listed countsAfter countsBy pick
+  send-refuses c m = by (sends.send-ways t c m σ)
+    where
+      by : {r : Sending} → sends.SendWays t c m r → (sendNumber (r .answer) ≡ no.accepted → ⊥) → Refuses t (send c m) (sendNumber (r .answer)) (r .table)
+      by (sends.bad-cap _ q) h = rw q (record { given = refl; only = refl })
+      by (sends.full _ _ _ q) h = rw q (record { given = refl; only = refl })
+      by (sends.sent _ x) h = absurd (h (ap sendNumber (x .answer)))
+
+  recv-refuses : (c : CapId) → (recvNumber (recvOf t c .answer) ≡ no.accepted → ⊥) → Refuses t (receive c) (recvNumber (recvOf t c .answer)) (recvOf t c .table)
+  unfolding listed countsAfter countsBy pick
+  recv-refuses c = by (receives.recv-ways t c σ)
+    where
+      by : {r : Receiving} → receives.RecvWays t c r → (recvNumber (r .answer) ≡ no.accepted → ⊥) → Refuses t (receive c) (recvNumber (r .answer)) (r .table)
+      by (receives.bad-cap _ q) h = rw q (record { given = refl; only = refl })
+      by (receives.empty _ _ _ q) h = rw q (record { given = refl; only = refl })
+      by (receives.received _ _ _ a _) h = absurd (h (ap recvNumber a))
+
+  park-refuses : (c : CapId) (task : TaskId) → (parkNumber (parkOf t c task .answer) ≡ no.accepted → ⊥) → Refuses t (park c task) (parkNumber (parkOf t c task .answer)) (parkOf t c task .table)
+  unfolding listed countsAfter countsBy pick
+  park-refuses c task = by (parks.park-ways t c task σ)
+    where
+      by : {r : Parking} → parks.ParkWays t c task r → (parkNumber (r .answer) ≡ no.accepted → ⊥) → Refuses t (park c task) (parkNumber (r .answer)) (r .table)
+      by (parks.bad-cap _ q) h = rw q (record { given = refl; only = refl })
+      by (parks.given _ _ _ a _) h = absurd (h (ap parkNumber a))
+      by (parks.cancelled _ _ _ _ _ q) h = rw q (record { given = refl; only = refl })
+      by (parks.busy _ _ _ _ _ q) h = rw q (record { given = refl; only = refl })
+      by (parks.parked _ _ _ a _) h = absurd (h (ap parkNumber a))
+
+  revoke-refuses : (c : CapId) → (revokeNumber (revokeOf t c .answer) ≡ no.accepted → ⊥) → Refuses t (revoke c) (revokeNumber (revokeOf t c .answer)) (revokeOf t c .table)
+  unfolding listed countsAfter countsBy pick
+  revoke-refuses c = by (revokes.revoke-ways t c σ)
+    where
+      by : {r : Revoking} → revokes.RevokeWays t c r → (revokeNumber (r .answer) ≡ no.accepted → ⊥) → Refuses t (revoke c) (revokeNumber (r .answer)) (r .table)
+      by (revokes.bad-cap _ q) h = rw q (record { given = refl; only = refl })
+      by (revokes.revoked _ _ _ a _) h = absurd (h (ap revokeNumber a))
+
+  register-refuses : (words : List ℕ) → (registerNumber (registerOf t words .answer) ≡ no.accepted → ⊥) → Refuses t (register words) (registerNumber (registerOf t words .answer)) (registerOf t words .table)
+  unfolding listed countsAfter countsBy pick
+  register-refuses words = by (registers.register-call-ways t words σ)
+    where
+      by : {r : Registering} → registers.RegisterCallWays t words r → (registerNumber (r .answer) ≡ no.accepted → ⊥) → Refuses t (register words) (registerNumber (r .answer)) (r .table)
+      by (registers.bad-word _ q) h = rw q (record { given = refl; only = refl })
+      by (registers.all _ a _) h = absurd (h (ap registerNumber a))
+
+  queued-refuses : (c : CapId) → (queuedNumber (queuedOf t c) ≡ no.accepted → ⊥) → Refuses t (queued c) (queuedNumber (queuedOf t c)) t
+  unfolding listed countsAfter
+  queued-refuses c h = by (eitherOf t c) refl
+    where
+      by : (o : Opening) → eitherOf t c ≡ o → Refuses t (queued c) (queuedNumber (queuedOf t c)) t
+      by Shut o = rw (queued-refused t c o) (record { given = refl; only = refl })
+      by (Opens k) o = absurd (h (ap queuedNumber (queued-says t c k o)))
+
+  holders-refuses : (c : CapId) → (holdersNumber (holdersOf t c) ≡ no.accepted → ⊥) → Refuses t (holders c) (holdersNumber (holdersOf t c)) t
+  unfolding listed countsAfter
+  holders-refuses c h = by (openingOf t c sendRight) refl
+    where
+      by : (o : Opening) → openingOf t c sendRight ≡ o → Refuses t (holders c) (holdersNumber (holdersOf t c)) t
+      by Shut o = rw (holders-refused t c o) (record { given = refl; only = refl })
+      by (Opens k) o = absurd (h (ap holdersNumber (holders-says t c k o)))
+
+-- ---- a step that is refused
+settles : (w : World) (call : Call) (n : ℕ) (u : Table) → step w call ≡ settled w u → Refuses (w .table) call n u → Refused w call n
+settles w call n u q x = record { given = x .given; only = q ∙ ap (settled w) (x .only) }
+
+create-refused : (w : World) (b : Bool) → Sound (w .table) → (createNumber (createOf (w .table) b .answer) ≡ no.accepted → ⊥) → Refused w (create b) (createNumber (createOf (w .table) b .answer))
+unfolding step answer after onCreation ifCreated listed countsAfter countsBy pick
+create-refused w b σ = by (creates.create-ways (w .table) b σ)
+  where
+    same : (x : Creation) → createOf (w .table) b ≡ x → numbered w x ≡ settled w (w .table) → step w (create b) ≡ settled w (w .table)
+    same x q e = subst (λ (y : Creation). numbered w y ≡ settled w (w .table)) (sym q) e
+
+    by : creates.CreateWays (w .table) b (createOf (w .table) b) → (createNumber (createOf (w .table) b .answer) ≡ no.accepted → ⊥) → Refused w (create b) (createNumber (createOf (w .table) b .answer))
+    by (creates.no-mailbox _ q) h = rw q (record { given = refl; only = same _ q refl })
+    by (creates.no-endpoint _ _ _ q) h = rw q (record { given = refl; only = same _ q refl })
+    by (creates.created _ _ _ x) h = absurd (h (ap createNumber (x .answer)))
+
+pub refusals-count : RefusalsCount
+unfolding step answer after onCreation releaseOf clearOf
+refusals-count w reached (create b) h = create-refused w b (reached-sound reached) h
+refusals-count w reached (send c m) h = settles w (send c m) _ _ refl (send-refuses (w .table) (reached-sound reached) c m h)
+refusals-count w reached (receive c) h = settles w (receive c) _ _ refl (recv-refuses (w .table) (reached-sound reached) c h)
+refusals-count w reached (park c task) h = settles w (park c task) _ _ refl (park-refuses (w .table) (reached-sound reached) c task h)
+refusals-count w reached (queued c) h = settles w (queued c) _ _ refl (queued-refuses (w .table) (reached-sound reached) c h)
+refusals-count w reached (revoke c) h = settles w (revoke c) _ _ refl (revoke-refuses (w .table) (reached-sound reached) c h)
+refusals-count w reached (register words) h = settles w (register words) _ _ refl (register-refuses (w .table) (reached-sound reached) words h)
+refusals-count w reached (release x y z v) h = absurd (h refl)
+refusals-count w reached (holders c) h = settles w (holders c) _ _ refl (holders-refuses (w .table) (reached-sound reached) c h)
+refusals-count w reached (clear task) h = absurd (h refl)
+refusals-count w reached noteAuthority h = absurd (h refl)
+refusals-count w reached noteState h = absurd (h refl)
+refusals-count w reached counts h = absurd (h refl)
+
+-- ---- the counts after every call
+create-counts : (t : Table) (b : Bool) → Sound t → createOf t b .table .refusals ≡ countsBy (createNumber (createOf t b .answer)) (t .refusals)
+unfolding countsBy pick
+create-counts t b σ = by (creates.create-ways t b σ)
+  where
+    by : {r : Creation} → creates.CreateWays t b r → r .table .refusals ≡ countsBy (createNumber (r .answer)) (t .refusals)
+    by (creates.no-mailbox _ q) = rw q
+    by (creates.no-endpoint _ _ _ q) = rw q
+    by (creates.created _ _ _ x) = rw (x .answer) (x .counts)
+
+register-counts : (t : Table) (words : List ℕ) → Sound t → registerOf t words .table .refusals ≡ countsBy (registerNumber (registerOf t words .answer)) (t .refusals)
+unfolding countsBy pick
+register-counts t words σ = by (registers.register-call-ways t words σ)
+  where
+    by : {r : Registering} → registers.RegisterCallWays t words r → r .table .refusals ≡ countsBy (registerNumber (r .answer)) (t .refusals)
+    by (registers.bad-word _ q) = rw q
+    by (registers.all _ a x) = rw a (x .counts)
+
+after-counts : (t : Table) (call : Call) → Sound t → after t call .refusals ≡ countsAfter call (numberOf (answer t call)) (t .refusals)
+unfolding answer after countsAfter countsBy pick releaseOf clearOf
+after-counts t (create b) σ = create-counts t b σ
+after-counts t (send c m) σ = send-counts t σ c m
+after-counts t (receive c) σ = recv-counts t σ c
+after-counts t (park c task) σ = park-counts t σ c task
+after-counts t (queued c) σ = refl
+after-counts t (revoke c) σ = revoke-counts t σ c
+after-counts t (register words) σ = register-counts t words σ
+after-counts t (release x y z v) σ = released-in t (fourSlots x y z v) σ .counts
+after-counts t (holders c) σ = refl
+after-counts t (clear task) σ = clear-clears t task .counts
+after-counts t noteAuthority σ = refl
+after-counts t noteState σ = refl
+after-counts t counts σ = refl
+
+pub counts-told : CountsTold
+counts-told w reached call = ap (λ (u : Table). u .refusals) (step-table w call) ∙ after-counts (w .table) call (reached-sound reached)
