@@ -7,3 +7,4 @@ pub mod Ids
 pub mod Return
 pub mod Refusals
 pub mod Public
+pub mod ExamplesIds

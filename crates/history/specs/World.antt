@@ -72,6 +72,11 @@ unfoldable pub run : World → List Call → World
 run w [] = w
 run w (c ∷ cs) = run (step w c) cs
 
+-- what the calls of a run answer, in order
+unfoldable pub answers : World → List Call → List Answer
+answers w [] = []
+answers w (c ∷ cs) = answer (w .table) c ∷ answers (step w c) cs
+
 abbrev pub start : Sizes → World
 start z = record { table = freshOf z; made = 0; tenant = λ _. 0 }
 
