@@ -1,12 +1,11 @@
 -- That the promises on ids are not empty, by runs that are computed. Assumes nothing.
 use mathlib.Core.Path.{_≡_, refl}
-use mathlib.Core.Bool.{Bool, true, false}
-use mathlib.Core.List.{List, [], _∷_}
+use mathlib.Core.Bool.{Bool, false}
+use mathlib.Core.List.{[], _∷_}
 use Prim.Native.Nat.{ℕ}
 use Rattle.laws.specs.Pick as picks
 use Rattle.laws.specs.Place as places
 use Rattle.cap.specs.Id.{idOf}
-use Rattle.cap.specs.declared.CapId.{CapId}
 use Rattle.mint.specs.Generation as generations
 use Rattle.ipc.specs.State.{nobody}
 use Rattle.ipc.specs.Make.{freshOf, sizesOf}
@@ -16,14 +15,13 @@ use Rattle.ipc.specs.Observe.{queuedOf}
 use Rattle.ipc.specs.Opening as openings
 use Rattle.ipc.specs.Counts as raises
 use Rattle.ipc.specs.Revoke as revocations
-use Rattle.ipc.specs.declared.state.Channel.{Channel}
 use Rattle.ipc.specs.declared.state.Message.{Message}
 use Rattle.ipc.specs.declared.answers.CreateAnswer.the-variants.{Created}
 use Rattle.ipc.specs.declared.answers.SendAnswer.the-variants.{Sent, BadCap}
 use Rattle.ipc.specs.declared.answers.QueuedAnswer.the-variants.{Queued}
 use Rattle.ipc.specs.declared.answers.RevokeAnswer.the-variants.{Revoked}
-use Rattle.history.specs.Calls.{Call, create, send, queued, revoke, created, sent, measured, revoked, answer, after}
-use Rattle.history.specs.World.{World, but, ifCreated, onCreation, step, answers, start}
+use Rattle.history.specs.Calls.{create, send, queued, revoke, created, sent, measured, revoked, answer, after}
+use Rattle.history.specs.World.{ifCreated, onCreation, step, answers, start}
 
 -- a fresh table with m 1 and e 2 creates, at every depth, and the two ids differ
 pub fresh-creates : (d : ℕ) (ephemeral : Bool) → answer (freshOf (sizesOf 1 2 d)) (create ephemeral) ≡ created (Created (record { send = idOf 0 1; recv = idOf 1 1 }))

@@ -1,37 +1,31 @@
--- Demand 3's first sentence, `ids-keep`, with `ids-open`, `ids-end` and `one-channel` beside it. The invariant is `Tidy`: an id that opens
+-- Demand 3's first sentence, `ids-keep`, with `ids-open` and `one-channel` beside it. The invariant is `Tidy`: an id that opens
 -- has the generation of the channel that it opens; and at an endpoint where channel n's id was issued, what opens is channel n or a later
 -- one, `Since`. Of fewer than 65,535 later ones none has channel n's generation. Assumes nothing.
-use mathlib.Core.Path.{_≡_, refl, sym, ap, subst, _∙_}
-use mathlib.Core.Bool.{Bool, true, false}
-use mathlib.Core.List.{List, [], _∷_}
+use mathlib.Core.Path.{_≡_, refl, sym, ap, _∙_}
+use mathlib.Core.Bool.{Bool}
+use mathlib.Core.List.{List}
 use mathlib.Core.Logic.{_⊎_, inl, inr, ⊎-elim}
-use Prim.Native.Nat.{ℕ, suc, _+_, _-_, _*_, _%_, _≤_, _<_}
+use Prim.Native.Nat.{ℕ, _+_, _*_, _≤_, _<_}
 use native.Mathlib.Omega.{arith}
-use Rattle.laws.proofs.Bools.{same?}
 use Rattle.cap.specs.Id.{idOf, indexOf, generationOf}
 use Rattle.cap.specs.Rights.{sendRight, receiveRight}
 use Rattle.cap.specs.declared.CapId.{CapId}
 use Rattle.cap.specs.declared.CapRights.{CapRights}
-use Rattle.cap.specs.declared.slot.Slot.{Slot}
 use Rattle.cap.proofs.Ids.{index-of-id, generation-of-id}
 use Rattle.ipc.specs.Sound.{Sound}
 use Rattle.ipc.specs.Create.{createOf}
 use Rattle.ipc.specs.Opening.{openingOf, eitherOf}
 use Rattle.ipc.specs.declared.state.Channel.{Channel}
-use Rattle.ipc.specs.declared.state.Table.{Table}
-use Rattle.ipc.specs.declared.opening.Opening.{Opening}
-use Rattle.ipc.specs.declared.opening.Opening.the-variants.{Opens, Shut}
+use Rattle.ipc.specs.declared.opening.Opening.the-variants.{Opens}
 use Rattle.ipc.proofs.Openings.{opens-live, either-cases, hold-opens}
 use Rattle.ipc.proofs.OtherOpenings.{any-is}
 use Rattle.ipc.proofs.AfterCreate.{CreateWays, no-mailbox, no-endpoint, created, create-ways}
-use Rattle.history.specs.Calls.{Call, create, answer, after}
-use Rattle.history.specs.World.{World, settled, step, run, Reached}
+use Rattle.history.specs.Calls.{Call, create, answer}
+use Rattle.history.specs.World.{World, step, run, Reached}
 use Rattle.history.specs.Channels.{Houses}
-use Rattle.history.specs.Ids.{Makes, IdOf, OpensOnly, IdsKeep, OneHouse, OpensNow, IdsOpen, IdsEnd}
-use Rattle.history.proofs.Shrinks.{lived}
-use Rattle.history.proofs.Kept.{after-sound}
-use Rattle.history.proofs.Steps.{Births, StepWays, settles, births, create-births, step-ways}
-use Rattle.history.proofs.Tidy.{genOf, Tidy, Since, Grows, births-issues, step-grows, run-grows, reached-tidy, one-house}
+use Rattle.history.specs.Ids.{Makes, IdOf, OpensOnly, IdsKeep, OneHouse, OpensNow, IdsOpen}
+use Rattle.history.proofs.Steps.{Births, births, create-births}
+use Rattle.history.proofs.Tidy.{genOf, Tidy, Since, births-issues, step-grows, run-grows, reached-tidy, one-house}
 use Rattle.history.proofs.Reach.{reaches}
 
 pub one-channel : OneHouse
@@ -61,12 +55,12 @@ placed w b n ids σ m = by (create-ways (w .table) b σ)
 
 -- ---- what is known of an id once it is issued
 -- it has its channel's generation, and what opens at its endpoint is its channel or a later one
-record Issued (n : ℕ) (c : CapId) (v : World) : Type 0 where
-  tidy : Tidy v
-  first : 1 ≤ n
-  past : n ≤ v .made
-  generation : generationOf c ≡ genOf n
-  since : Since n (indexOf c) v
+pub record Issued (n : ℕ) (c : CapId) (v : World) : Type 0 where
+  pub tidy : Tidy v
+  pub first : 1 ≤ n
+  pub past : n ≤ v .made
+  pub generation : generationOf c ≡ genOf n
+  pub since : Since n (indexOf c) v
 
 module _ (w : World) (b : Bool) (n : ℕ) (ids : Channel) (τ : Tidy w) (m : Makes w b n ids) (p : Placed w b ids) where
   abbrev g : ℕ
@@ -98,18 +92,17 @@ module _ (w : World) (b : Bool) (n : ℕ) (ids : Channel) (τ : Tidy w) (m : Mak
       record {
         box = p .box;
         houses = record { live = rw (β .table) (β .makes .live); tenant = β .tenant ∙ sym (m .number) };
-        sends = rw (β .table, p .send-id) (o .sends);
+        both = record { sends = rw (β .table, p .send-id) (o .sends); receives = rw (β .table, p .recv-id) (o .receives) };
         sends-only = rw (β .table, p .send-id) (o .sends-only);
-        receives = rw (β .table, p .recv-id) (o .receives);
         receives-only = rw (β .table, p .recv-id) (o .receives-only);
         differ = λ e. let z : p .send + 65536 * g ≡ p .recv + 65536 * g = ap (λ (c : CapId). c .raw) (sym (p .send-id) ∙ e ∙ p .recv-id) in omega arith;
       }
 
-issued : (w : World) (b : Bool) (n : ℕ) (ids : Channel) (c : CapId) → Reached w → Makes w b n ids → IdOf ids c → Issued n c (step w (create b))
+pub issued : (w : World) (b : Bool) (n : ℕ) (ids : Channel) (c : CapId) → Reached w → Makes w b n ids → IdOf ids c → Issued n c (step w (create b))
 issued w b n ids c reached m = let τ = reached-tidy reached in issued-by w b n ids τ m (placed w b n ids (τ .sound) m) c
 
 -- and so after any calls
-issued-on : (n : ℕ) (c : CapId) (v : World) (later : List Call) → Issued n c v → Issued n c (run v later)
+pub issued-on : (n : ℕ) (c : CapId) (v : World) (later : List Call) → Issued n c v → Issued n c (run v later)
 issued-on n c v later i =
     let u = run-grows v later (i .tidy) in
     let h = u .more in
@@ -133,7 +126,7 @@ module _ (n : ℕ) (c : CapId) (v : World) (i : Issued n c v) (few : v .made < n
   houses-either : (k : ℕ) → eitherOf (v .table) c ≡ Opens k → Houses v n k
   houses-either k e = ⊎-elim (houses-by sendRight k) (houses-by receiveRight k) (either-cases (v .table) c k e)
 
-  opens-only : OpensOnly v n c
+  pub opens-only : OpensOnly v n c
   opens-only =
       record {
         by = houses-by;
@@ -151,39 +144,3 @@ ids-keep w reached b n ids m later few c is =
 
 pub ids-open : IdsOpen
 ids-open w reached b n ids m = let τ = reached-tidy reached in opens-now w b n ids τ m (placed w b n ids (τ .sound) m)
-
--- ---- a channel that lives no more
--- its number is not given again
-step-gone : (w : World) (c : Call) (n : ℕ) → Tidy w → n ≤ w .made → ((k : ℕ) → Houses w n k → ⊥) → (k : ℕ) → Houses (step w c) n k → ⊥
-step-gone w c n τ few gone = by (step-ways w c (τ .sound))
-  where
-    by : {v : World} → StepWays w c v → (k : ℕ) → Houses v n k → ⊥
-    by (settles h q) k x =
-        let y : Houses (settled w (after (w .table) c)) n k = rw q at x in
-        gone k (record { live = lived (w .table) (after (w .table) c) (τ .sound) (after-sound (w .table) c (τ .sound)) h k (y .live); tenant = y .tenant })
-    by {v} (births b k s r _ β) j x =
-        ⊎-elim (λ e. let y = x .tenant in let z : v .tenant j ≡ suc (w .made) = ap (v .tenant) e ∙ β .tenant in omega arith)
-        (λ ne. gone j (record { live = sym (β .makes .others j ne .live) ∙ rw (← β .table) (x .live); tenant = sym (β .others j ne) ∙ x .tenant }))
-        (same? j k)
-
-run-gone : (w : World) (cs : List Call) (n : ℕ) → Tidy w → n ≤ w .made → ((k : ℕ) → Houses w n k → ⊥) → (k : ℕ) → Houses (run w cs) n k → ⊥
-unfolding run
-run-gone w [] n τ few gone = gone
-run-gone w (c ∷ cs) n τ few gone =
-    let a = step-grows w c τ in let h = a .more in run-gone (step w c) cs n (a .tidy) (omega arith) (step-gone w c n τ few gone)
-
-pub ids-end : IdsEnd
-ids-end w reached b n ids m some later gone few c is need = by (openingOf (u .table) c need) refl
-  where
-    v : World
-    v = run (step w (create b)) some
-
-    u : World
-    u = run v later
-
-    at : Issued n c v
-    at = issued-on n c (step w (create b)) some (issued w b n ids c reached m is)
-
-    by : (o : Opening) → openingOf (u .table) c need ≡ o → openingOf (u .table) c need ≡ Shut
-    by Shut e = e
-    by (Opens k) e = absurd (run-gone v later n (at .tidy) (at .past) gone k (opens-only n c u (issued-on n c v later at) few .by need k e))

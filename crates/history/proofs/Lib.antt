@@ -4,6 +4,7 @@ pub mod Steps
 pub mod Tidy
 pub mod Reach
 pub mod Ids
+pub mod Lives
 pub mod Return
 pub mod Refusals
 pub mod Public

@@ -1,13 +1,12 @@
 -- What a refusal of a run changes, `refusals-count`, and what every call does to the counts, `counts-told`. Assumes nothing.
 use mathlib.Core.Path.{_≡_, refl, sym, ap, subst, _∙_}
-use mathlib.Core.Bool.{Bool, true, false}
+use mathlib.Core.Bool.{Bool, true}
 use mathlib.Core.List.{List}
 use Prim.Native.Nat.{ℕ}
 use Rattle.laws.specs.Pick.{pick}
 use Rattle.laws.specs.Refusals as no
 use Rattle.cap.specs.Rights.{sendRight}
 use Rattle.cap.specs.declared.CapId.{CapId}
-use Rattle.cap.specs.declared.slot.Slot.{Slot}
 use Rattle.ipc.specs.State.{withRefusals}
 use Rattle.ipc.specs.Sound.{Sound}
 use Rattle.ipc.specs.Answers.{createNumber, sendNumber, recvNumber, parkNumber, queuedNumber, revokeNumber, registerNumber, holdersNumber}
@@ -43,7 +42,7 @@ use Rattle.ipc.proofs.AfterClear.{clear-clears}
 use Rattle.ipc.proofs.AfterCounts.{send-counts, recv-counts, park-counts, revoke-counts}
 use Rattle.history.specs.Calls.{Call, create, send, receive, park, queued, revoke, register, release, holders, clear, noteAuthority, noteState, counts, fourSlots, answer, after}
 use Rattle.history.specs.Numbers.{numberOf}
-use Rattle.history.specs.World.{World, ifCreated, onCreation, settled, step, Reached}
+use Rattle.history.specs.World.{World, ifCreated, onCreation, settled, step}
 use Rattle.history.specs.Refusals.{listed, countsAfter, Refused, RefusalsCount, CountsTold}
 use Rattle.history.proofs.Kept.{step-table, reached-sound}
 use Rattle.history.proofs.Steps.{numbered}

@@ -2,24 +2,22 @@
 -- places, so that only generations tell its ids apart; a round is a creation and the revocation of what it made, and by induction over
 -- rounds nothing lives after each, and the next generation goes by their number. Assumes nothing.
 use mathlib.Core.Path.{_≡_, refl, sym, ap, subst, _∙_}
-use mathlib.Core.Bool.{Bool, true, false}
+use mathlib.Core.Bool.{false}
 use mathlib.Core.List.{List, [], _∷_}
-use mathlib.Core.Logic.{_⊎_, inl, inr, ⊎-elim}
-use Prim.Native.Nat.{ℕ, zero, suc, _+_, _-_, _%_, _≤_, _<_}
+use mathlib.Core.Logic.{⊎-elim}
+use Prim.Native.Nat.{ℕ, zero, suc, _+_}
 use native.Mathlib.Omega.{arith}
 use Rattle.laws.proofs.Bools.{either, same?}
 use Rattle.laws.proofs.Cases.{not-both}
 use Rattle.laws.proofs.Search.{here, none-free}
-use Rattle.laws.specs.declared.Place.the-variants.{At, Nowhere}
 use Rattle.cap.specs.Id.{idOf, indexOf}
 use Rattle.cap.specs.Rights.{sendRight, receiveRight}
 use Rattle.cap.specs.declared.CapId.{CapId}
 use Rattle.cap.specs.declared.CapRights.{CapRights}
 use Rattle.ipc.specs.State.{endpointLive, mailboxLive}
-use Rattle.ipc.specs.Sound.{Sound}
-use Rattle.ipc.specs.Create.{createOf, freeEndpoint}
-use Rattle.ipc.specs.Make.{freshOf, sizesOf}
-use Rattle.ipc.specs.Opening.{openingOf, eitherOf, anyRightOf, opened}
+use Rattle.ipc.specs.Create.{createOf}
+use Rattle.ipc.specs.Make.{sizesOf}
+use Rattle.ipc.specs.Opening.{openingOf, anyRightOf, opened}
 use Rattle.ipc.specs.Revoke.{revokeOf}
 use Rattle.ipc.specs.declared.state.Channel.{Channel}
 use Rattle.ipc.specs.declared.state.Mailbox.{Mailbox}
@@ -32,9 +30,9 @@ use Rattle.ipc.proofs.AfterNew.{fresh-box}
 use Rattle.ipc.proofs.AfterCreate.{Creates, CreateWays, no-mailbox, no-endpoint, create-ways}
 use Rattle.ipc.proofs.AfterRevoke.{RevokeWays, bad-cap, revoked, revoke-ways}
 use Rattle.history.specs.Calls.{Call, create, revoke, created, answer, after}
-use Rattle.history.specs.World.{World, onCreation, step, run, start, Reached, fresh}
+use Rattle.history.specs.World.{World, onCreation, step, run, start, fresh}
 use Rattle.history.specs.Channels.{Houses}
-use Rattle.history.specs.Ids.{Makes, IdsReturn}
+use Rattle.history.specs.Ids.{IdsReturn}
 use Rattle.history.proofs.Kept.{step-table}
 use Rattle.history.proofs.Steps.{Births, create-births}
 use Rattle.history.proofs.Tidy.{genOf, Tidy, step-grows, start-tidy}
@@ -201,8 +199,7 @@ ids-return =
       made = idle-births _ 65535 before .made ∙ ap suc (before .made);
       box = 0;
       houses = last-houses _ 65535 before refl;
-      sends = last-sends _ 65535 before refl;
-      receives = last-receives _ 65535 before refl;
+      both = record { sends = last-sends _ 65535 before refl; receives = last-receives _ 65535 before refl };
     }
   where
     before : Idle (run (round (start small) (idOf 0 1)) (rounds 2 65534)) 65535

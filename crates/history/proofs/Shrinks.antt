@@ -1,11 +1,11 @@
--- A call that makes no channel lets no id open what it did not open, and uses no generation. Assumes nothing.
+-- A call that makes no channel lets no id open what it did not open, shuts none whose mailbox lives on, and uses no generation.
+-- Assumes nothing.
 use mathlib.Core.Path.{_≡_, refl, sym, ap, _∙_}
-use mathlib.Core.Bool.{true, false}
+use mathlib.Core.Bool.{true}
 use mathlib.Core.Logic.{⊎-elim}
 use Prim.Native.Nat.{ℕ, _<_}
 use native.Mathlib.Omega.{arith}
 use borrow.Author.Tests.{eq-eqb, lt-ltb}
-use lib.Dec.{eqb, ltb}
 use Rattle.laws.specs.Pick.{pick}
 use Rattle.laws.proofs.Bools.{below?}
 use Rattle.laws.proofs.Cases.{not-both}
@@ -46,10 +46,11 @@ live-opens t k s l =
 -- ---- the relation
 pub record Shrinks (t u : Table) : Type 0 where
   pub only : (c : CapId) (need : CapRights) (k : ℕ) → openingOf u c need ≡ Opens k → openingOf t c need ≡ Opens k
+  pub still : (c : CapId) (need : CapRights) (k : ℕ) → openingOf t c need ≡ Opens k → mailboxLive u k ≡ true → openingOf u c need ≡ Opens k
   pub next : u .«next_gen» ≡ t .«next_gen»
 
 pub steady-shrinks : (t u : Table) → Steady t u → Shrinks t u
-steady-shrinks t u a = record { only = λ c need k e. sym (a .opening c need) ∙ e; next = a .next }
+steady-shrinks t u a = record { only = λ c need k e. sym (a .opening c need) ∙ e; still = λ c need k e _. a .opening c need ∙ e; next = a .next }
 
 -- what lives afterwards lived before
 pub lived : (t u : Table) → Sound t → Sound u → Shrinks t u → (k : ℕ) → mailboxLive u k ≡ true → mailboxLive t k ≡ true

@@ -5,18 +5,21 @@ use mathlib.Core.List.{List}
 use Prim.Native.Nat.{ℕ, suc}
 use borrow.Author.Tests.{eq-eqb, ne-eqb}
 use Rattle.laws.specs.Pick.{pick}
-use Rattle.laws.proofs.Cases.{all-pick}
+use Rattle.laws.proofs.Cases.{all-pick, not-both}
 use Rattle.cap.specs.Id.{idOf, indexOf}
 use Rattle.cap.specs.Rights.{sendRight}
 use Rattle.cap.specs.Word.{slotsOf}
+use Rattle.cap.specs.declared.CapId.{CapId}
 use Rattle.ipc.specs.State.{endpointAt}
 use Rattle.ipc.specs.Sound.{Sound}
 use Rattle.ipc.specs.Create.{createOf}
 use Rattle.ipc.specs.Holds.{registerOf, releaseOf}
+use Rattle.ipc.specs.Revoke.{revokeOf}
 use Rattle.ipc.specs.Views.{Steady}
 use Rattle.ipc.specs.declared.state.Table.{Table}
 use Rattle.ipc.specs.declared.answers.Creation.{Creation}
 use Rattle.ipc.specs.declared.answers.Registering.{Registering}
+use Rattle.ipc.specs.declared.answers.Revoking.{Revoking}
 use Rattle.ipc.proofs.Openings.{opened-of}
 use Rattle.ipc.proofs.Changes.{steady-same}
 use Rattle.ipc.proofs.AfterSend.{send-steady}
@@ -24,9 +27,9 @@ use Rattle.ipc.proofs.AfterReceive.{recv-steady}
 use Rattle.ipc.proofs.AfterPark.{park-steady}
 use Rattle.ipc.proofs.AfterRegister.{registered-in}
 use Rattle.ipc.proofs.AfterReleaseAll.{released-in}
-use Rattle.ipc.proofs.AfterRevoke.{revoke-opens, revoke-next}
+use Rattle.ipc.proofs.AfterRevoke.{RevokeWays, bad-cap, revoked, revoke-ways}
 use Rattle.ipc.proofs.AfterClear.{clear-clears}
-use Rattle.ipc.proofs.AfterCounts.{note-authority-only, note-state-only}
+use Rattle.ipc.proofs.AfterCounts.{authority-only, note-authority-only, note-state-only}
 use Rattle.ipc.proofs.AfterCreate.{Creates, CreateWays, no-mailbox, no-endpoint, created, create-ways}
 use Rattle.history.specs.Calls.{Call, create, send, receive, park, queued, revoke, register, release, holders, clear, noteAuthority, noteState, counts, fourSlots, answer, after}
 use Rattle.history.specs.World.{World, but, ifCreated, onCreation, settled, born, step}
@@ -86,6 +89,19 @@ register-steady : (t : Table) (words : List ℕ) → Sound t → Steady t (regis
 unfolding registerOf
 register-steady t words s = all-pick (λ (r : Registering). Steady t (r .table)) _ _ _ (λ _. registered-in t (slotsOf words) s .steady) (λ _. steady-same t)
 
+-- a revocation shuts the ids of one mailbox, which dies
+revoke-shrinks : (t : Table) (c : CapId) → Sound t → Shrinks t (revokeOf t c .table)
+revoke-shrinks t c s = by (revoke-ways t c s)
+  where
+    by : {r : Revoking} → RevokeWays t c r → Shrinks t (r .table)
+    by (bad-cap _ q) = rw q (steady-shrinks t _ (authority-only t .steady))
+    by (revoked k _ _ _ x) =
+        record {
+          only = x .only;
+          still = λ d need j e l. x .still d need j (λ q. not-both _ l (rw q (x .live))) e;
+          next = x .next;
+        }
+
 pub step-ways : (w : World) (c : Call) → Sound (w .table) → StepWays w c (step w c)
 unfolding step answer after onCreation releaseOf
 step-ways w (create b) s = create-step w b s
@@ -93,7 +109,7 @@ step-ways w (send c m) s = settles (steady-shrinks _ _ (send-steady (w .table) c
 step-ways w (receive c) s = settles (steady-shrinks _ _ (recv-steady (w .table) c s)) refl
 step-ways w (park c task) s = settles (steady-shrinks _ _ (park-steady (w .table) c task s)) refl
 step-ways w (queued c) s = settles (unchanged (w .table)) refl
-step-ways w (revoke c) s = settles (record { only = revoke-opens (w .table) c s; next = revoke-next (w .table) c s }) refl
+step-ways w (revoke c) s = settles (revoke-shrinks (w .table) c s) refl
 step-ways w (register words) s = settles (steady-shrinks _ _ (register-steady (w .table) words s)) refl
 step-ways w (release x y z v) s = settles (steady-shrinks _ _ (released-in (w .table) (fourSlots x y z v) s .steady)) refl
 step-ways w (holders c) s = settles (unchanged (w .table)) refl

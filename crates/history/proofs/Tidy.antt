@@ -1,17 +1,16 @@
 -- What holds in every run: the next generation goes by how many channels were made, an id that opens a channel has that channel's
 -- generation, and each live mailbox has a number of its own. Assumes nothing.
 use mathlib.Core.Path.{_≡_, refl, sym, ap, _∙_}
-use mathlib.Core.Bool.{Bool, true, false}
+use mathlib.Core.Bool.{Bool, true}
 use mathlib.Core.List.{List, [], _∷_}
-use mathlib.Core.Logic.{_⊎_, inl, inr, ⊎-elim}
-use Prim.Native.Nat.{ℕ, suc, _+_, _-_, _%_, _≤_, _<_}
+use mathlib.Core.Logic.{_⊎_, ⊎-elim}
+use Prim.Native.Nat.{ℕ, suc, _+_, _-_, _%_, _≤_}
 use native.Mathlib.Omega.{arith}
 use borrow.Author.Tests.{eqb-true, eqb-false}
 use lib.Dec.{eqb}
-use Rattle.laws.specs.Pick.{pick}
 use Rattle.laws.proofs.Bools.{same?}
 use Rattle.laws.proofs.Cases.{all-pick, not-both}
-use Rattle.cap.specs.Id.{idOf, indexOf, generationOf}
+use Rattle.cap.specs.Id.{indexOf, generationOf}
 use Rattle.cap.specs.declared.CapId.{CapId}
 use Rattle.cap.specs.declared.CapRights.{CapRights}
 use Rattle.cap.proofs.Ids.{generation-of-id}
@@ -30,7 +29,7 @@ use Rattle.ipc.proofs.Openings.{opens-live}
 use Rattle.ipc.proofs.KeepsCreate.{create-kept}
 use Rattle.ipc.proofs.NewChannel.{NewId}
 use Rattle.ipc.proofs.AfterNew.{fresh-shut, fresh-box}
-use Rattle.history.specs.Calls.{Call, create, after}
+use Rattle.history.specs.Calls.{Call, after}
 use Rattle.history.specs.World.{World, settled, step, run, start, Reached, fresh, then}
 use Rattle.history.specs.Channels.{Houses}
 use Rattle.history.proofs.Kept.{after-sound}

@@ -116,26 +116,39 @@ IdsKeep =
 abbrev pub OneHouse : Type 0
 OneHouse = (w : World) → Reached w → (n j k : ℕ) → Houses w n j → Houses w n k → j ≡ k
 
--- it is not for nothing: right after the creation each of the two ids opens channel n, by its one right
+-- ---- it is not for nothing
+-- each of the two ids opens mailbox k, by its right
+pub record OpensBoth (v : World) (k : ℕ) (ids : Channel) : Type 0 where
+  pub sends : openingOf (v .table) (ids .send) sendRight ≡ Opens k
+  pub receives : openingOf (v .table) (ids .recv) receiveRight ≡ Opens k
+
+-- right after the creation channel n lives, and its two ids, which differ, open it, each by its one right
 pub record OpensNow (v : World) (n : ℕ) (ids : Channel) : Type 0 where
   pub box : ℕ
   pub houses : Houses v n box
-  pub sends : openingOf (v .table) (ids .send) sendRight ≡ Opens box
+  pub both : OpensBoth v box ids
   pub sends-only : openingOf (v .table) (ids .send) receiveRight ≡ Shut
-  pub receives : openingOf (v .table) (ids .recv) receiveRight ≡ Opens box
   pub receives-only : openingOf (v .table) (ids .recv) sendRight ≡ Shut
   pub differ : ids .send ≡ ids .recv → ⊥
 
 abbrev pub IdsOpen : Type 0
 IdsOpen = (w : World) → Reached w → (b : Bool) (n : ℕ) (ids : Channel) → Makes w b n ids → OpensNow (step w (create b)) n ids
 
+-- and as long as channel n lives they open it, however many creations come
+abbrev pub IdsStay : Type 0
+IdsStay =
+    (w : World) → Reached w → (b : Bool) (n : ℕ) (ids : Channel) → Makes w b n ids →
+    (later : List Call) → let v = run (step w (create b)) later in (k : ℕ) → Houses v n k → OpensBoth v k ids
+
 -- ---- both sides of the edge: "Channel 1 revoked at once: its id opens nothing after 65,534 more creations; after the 65,535th it may."
--- once channel n lives no more, its ids open nothing through 65,534 later creations
+-- once channel n is revoked, by either id, its ids open nothing until 65,535 later creations have succeeded
 abbrev pub IdsEnd : Type 0
 IdsEnd =
     (w : World) → Reached w → (b : Bool) (n : ℕ) (ids : Channel) → Makes w b n ids →
-    (some later : List Call) → let v = run (step w (create b)) some in let u = run v later in
-    ((k : ℕ) → Houses v n k → ⊥) → u .made < n + 65535 → (c : CapId) → IdOf ids c → (need : CapRights) → openingOf (u .table) c need ≡ Shut
+    (some : List Call) → let v = run (step w (create b)) some in
+    (c : CapId) → IdOf ids c → (x : Waiter) → answer (v .table) (revoke c) ≡ revoked (Revoked x) →
+    (later : List Call) → let u = run (step v (revoke c)) later in
+    u .made < n + 65535 → (d : CapId) → IdOf ids d → (need : CapRights) → openingOf (u .table) d need ≡ Shut
 
 -- with 65,535 the bound is exact: a run that makes channel 1, revokes it at once and makes 65,535 more, after which both its ids open the last
 pub record IdsReturn : Type 0 where
@@ -153,5 +166,4 @@ pub record IdsReturn : Type 0 where
   pub made : step before (create false) .made ≡ 1 + 65535
   pub box : ℕ
   pub houses : Houses (step before (create false)) 65536 box
-  pub sends : openingOf (step before (create false) .table) (ids .send) sendRight ≡ Opens box
-  pub receives : openingOf (step before (create false) .table) (ids .recv) receiveRight ≡ Opens box
+  pub both : OpensBoth (step before (create false)) box ids
