@@ -4,7 +4,7 @@ use mathlib.Core.Path.{_≡_, refl, sym, ap, _∙_}
 use mathlib.Core.Bool.{false}
 use mathlib.Core.List.{List, [], _∷_}
 use mathlib.Core.Logic.{inl}
-use Prim.Native.Nat.{ℕ, suc, _≤_}
+use Prim.Native.Nat.{ℕ, suc, _+_, _≤_, _<_}
 use native.Mathlib.Omega.{arith}
 use Rattle.laws.proofs.Cases.{not-both}
 use Rattle.cap.specs.declared.CapId.{CapId}
@@ -25,7 +25,7 @@ use Rattle.history.specs.Ids.{IdOf, OpensOnly, IdsStay, IdsEnd}
 use Rattle.history.proofs.Shrinks.{Shrinks, lived}
 use Rattle.history.proofs.Kept.{after-sound, step-table}
 use Rattle.history.proofs.Steps.{StepWays, settles, births, step-ways}
-use Rattle.history.proofs.Tidy.{Tidy, step-grows, run-grows}
+use Rattle.history.proofs.Tidy.{Tidy, step-grows}
 use Rattle.history.proofs.Ids.{Issued, issued, issued-on, opens-only, ids-open}
 
 -- ---- a step, and a channel that was made before it
@@ -105,7 +105,7 @@ revoke-gone v n c x τ past only e = by (revokes.revoke-ways (v .table) c (τ .s
 
 pub ids-end : IdsEnd
 unfolding run
-ids-end w reached b n ids m some c is x e later few d of need = by (openingOf (u .table) d need) refl
+ids-end w reached b n ids m some few c is x e later = record { gone = gone; shut = shut }
   where
     v : World
     v = run (step w (create b)) some
@@ -122,9 +122,11 @@ ids-end w reached b n ids m some c is x e later few d of need = by (openingOf (u
         let a = step-grows v (revoke c) (i .tidy) in
         let p = i .past in
         let y = a .more in
-        let z = run-grows (step v (revoke c)) later (a .tidy) .more in
-        run-gone (step v (revoke c)) later n (a .tidy) (omega arith) (revoke-gone v n c x (i .tidy) p (opens-only n c v i (omega arith)) e)
+        run-gone (step v (revoke c)) later n (a .tidy) (omega arith) (revoke-gone v n c x (i .tidy) p (opens-only n c v i few) e)
 
-    by : (o : Opening) → openingOf (u .table) d need ≡ o → openingOf (u .table) d need ≡ Shut
-    by Shut q = q
-    by (Opens k) q = absurd (gone k (opens-only n d u (issued-on n d v (revoke c ∷ later) (at d of)) few .by need k q))
+    shut : u .made < n + 65535 → (d : CapId) → IdOf ids d → (need : CapRights) → openingOf (u .table) d need ≡ Shut
+    shut l d of need = by (openingOf (u .table) d need) refl
+      where
+        by : (o : Opening) → openingOf (u .table) d need ≡ o → openingOf (u .table) d need ≡ Shut
+        by Shut q = q
+        by (Opens k) q = absurd (gone k (opens-only n d u (issued-on n d v (revoke c ∷ later) (at d of)) l .by need k q))

@@ -141,14 +141,18 @@ IdsStay =
     (later : List Call) → let v = run (step w (create b)) later in (k : ℕ) → Houses v n k → OpensBoth v k ids
 
 -- ---- both sides of the edge: "Channel 1 revoked at once: its id opens nothing after 65,534 more creations; after the 65,535th it may."
--- once channel n is revoked, by either id, its ids open nothing until 65,535 later creations have succeeded
+-- channel n lives nowhere, and its ids open nothing until 65,535 later creations have succeeded
+pub record Ended (u : World) (n : ℕ) (ids : Channel) : Type 0 where
+  pub gone : (k : ℕ) → Houses u n k → ⊥
+  pub shut : u .made < n + 65535 → (d : CapId) → IdOf ids d → (need : CapRights) → openingOf (u .table) d need ≡ Shut
+
+-- so it is from a revocation on, which ends the channel of the id that it is given
 abbrev pub IdsEnd : Type 0
 IdsEnd =
     (w : World) → Reached w → (b : Bool) (n : ℕ) (ids : Channel) → Makes w b n ids →
     (some : List Call) → let v = run (step w (create b)) some in
-    (c : CapId) → IdOf ids c → (x : Waiter) → answer (v .table) (revoke c) ≡ revoked (Revoked x) →
-    (later : List Call) → let u = run (step v (revoke c)) later in
-    u .made < n + 65535 → (d : CapId) → IdOf ids d → (need : CapRights) → openingOf (u .table) d need ≡ Shut
+    v .made < n + 65535 → (c : CapId) → IdOf ids c → (x : Waiter) → answer (v .table) (revoke c) ≡ revoked (Revoked x) →
+    (later : List Call) → Ended (run (step v (revoke c)) later) n ids
 
 -- with 65,535 the bound is exact: a run that makes channel 1, revokes it at once and makes 65,535 more, after which both its ids open the last
 pub record IdsReturn : Type 0 where
