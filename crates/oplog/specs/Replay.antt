@@ -1,11 +1,13 @@
 -- A replay over lent buffers: each call goes on from a place of the log and fills a buffer with the next part of the text.
 use mathlib.Core.Bool.{Bool, _&&_}
-use mathlib.Core.List.{List}
-use Prim.Native.Nat.{ℕ, _+_}
-use lib.ListN.{length, drop}
+use mathlib.Core.Path.{_≡_}
+use mathlib.Core.List.{List, _++_}
+use Prim.Native.Nat.{ℕ, _+_, _≤_}
+use lib.ListN.{length, take, drop}
 use lib.Dec.{leb, ltb, eqb}
 use Rattle.laws.specs.Pick.{pick}
 use Rattle.laws.specs.Refusals as no
+use Rattle.ipc.specs.Sound.{Sound}
 use Rattle.ipc.specs.SoundTest.{soundTest}
 use Rattle.line.specs.Line.{endOf, badOf}
 use Rattle.line.specs.Put.{written, putOf}
@@ -62,3 +64,20 @@ replayOf log out p =
     (pick (ltb most (length log)) (lastOf out 0 no.tooLong most p)
     (endingOf (p .offset) (ranOf log out p)))
     (filled BadTable 0 p out)
+
+-- ---- a whole replay
+-- a place that a replay of the log can come to, said of the tables themselves
+pub record Placed (log : List ℕ) (p : Place) : Type 0 where
+  pub inside : p .offset ≤ length log
+  pub counted : p .done ≤ p .offset
+  pub sound : Sound (p .tables .channels)
+
+-- the part that a call puts into a buffer
+abbrev pub partOf : Filled → List ℕ
+partOf f = take (f .part .at) (f .buffer)
+
+-- what is printed from a place on, whatever buffers are lent: the parts one after the other, each but the last ended by want of room
+pub data Prints (log : List ℕ) : Place → List ℕ → Type 0 where
+  last : {p : Place} (out : List ℕ) → replayOf log out p .part .answer ≡ Took → Prints log p (partOf (replayOf log out p))
+  next : {p : Place} {text : List ℕ} (out : List ℕ) → replayOf log out p .part .answer ≡ NoRoom → Prints log (replayOf log out p .part .place) text →
+      Prints log p (partOf (replayOf log out p) ++ text)
