@@ -9,3 +9,4 @@ pub mod Return
 pub mod Refusals
 pub mod Public
 pub mod ExamplesIds
+pub mod WaitsTurn

@@ -5,3 +5,4 @@ pub mod Numbers
 pub mod Ids
 pub mod Refusals
 pub mod Public
+pub mod Waits
