@@ -10,3 +10,4 @@ pub mod Refusals
 pub mod Public
 pub mod ExamplesIds
 pub mod WaitsTurn
+pub mod WaitsCalls
