@@ -11,3 +11,4 @@ pub mod Public
 pub mod ExamplesIds
 pub mod WaitsTurn
 pub mod WaitsCalls
+pub mod Waits

@@ -1,7 +1,7 @@
 -- Demand 3: "A parked task is named by the first later accepted send on its channel, its revocation, or, if ephemeral, the release that
 -- leaves no send hold, whichever comes first, unless a clearing of that task comes sooner. Nothing else ends the wait."
 --
---   "a parked task"                            a park answered Parked makes task x wait on the channel that its id opens: `ParkWaits`, `Waits`
+--   "a parked task"                            a park answered Parked makes task x wait on the channel that its id opens: `ParkedOn`, `Waits`
 --   "is named by"                              the call's answer has x, at its place: `Names`
 --   "accepted send on its channel"             `ends`, at send: the id opens channel n for send, and the answer's number is 0
 --   "its revocation"                           `ends`, at revoke: the id opens channel n as a revocation asks, by either right
@@ -118,22 +118,18 @@ NamedFirst =
     (w : World) → Reached w → (n k : ℕ) (x : TaskId) → Waits w n k x → (cs : List Call) → Quiet w n k x cs →
     Waits (run w cs) n k x × ((c : Call) → ends (run w cs) n k x c ≡ true → Ended (run w cs) n k x c)
 
--- a task parked through the id c waits on channel n, the tenant of the mailbox that the id opens for receive
-pub record ParkedOn (w : World) (c : CapId) (x : TaskId) : Type 0 where
-  pub box : ℕ
-  pub opens : openingOf (w .table) c receiveRight ≡ Opens box
-  pub waits : Waits (step w (park c x)) (w .tenant box) box x
-
-abbrev pub ParkWaits : Type 0
-ParkWaits = (w : World) → Reached w → (c : CapId) (x : TaskId) → answer (w .table) (park c x) ≡ parked Parked → ParkedOn w c x
-
 -- what becomes of a wait in a run: none of its calls ends it and the task waits on, or the first that does names or clears it
 pub data Fate (w : World) (n k : ℕ) (x : TaskId) (cs : List Call) : Type 0 where
   waits : Quiet w n k x cs → Waits (run w cs) n k x → Fate w n k x cs
   ended : (f : First w n k x cs) → Ended (run w (f .before)) n k x (f .call) → Fate w n k x cs
 
--- the demand's sentence, from the park on: whatever is called after it
+-- task x, parked through the id c, waits on the channel that the id opens for receive, with that fate in every later run
+pub record ParkedOn (w : World) (c : CapId) (x : TaskId) : Type 0 where
+  pub box : ℕ
+  pub opens : openingOf (w .table) c receiveRight ≡ Opens box
+  pub waits : Waits (step w (park c x)) (w .tenant box) box x
+  pub fate : (cs : List Call) → Fate (step w (park c x)) (w .tenant box) box x cs
+
+-- the demand's sentences, from the park on
 abbrev pub ParkedNamed : Type 0
-ParkedNamed =
-    (w : World) → Reached w → (c : CapId) (x : TaskId) → answer (w .table) (park c x) ≡ parked Parked →
-    (k : ℕ) → openingOf (w .table) c receiveRight ≡ Opens k → (cs : List Call) → Fate (step w (park c x)) (w .tenant k) k x cs
+ParkedNamed = (w : World) → Reached w → (c : CapId) (x : TaskId) → answer (w .table) (park c x) ≡ parked Parked → ParkedOn w c x
