@@ -12,3 +12,4 @@ pub mod ExamplesIds
 pub mod WaitsTurn
 pub mod WaitsCalls
 pub mod Waits
+pub mod ExampleWaits

@@ -1,0 +1,137 @@
+-- Runs in which a task is parked and each call that can end its wait ends it, computed: the premises of the theorem of waits are met, and
+-- what it says of them is what the rules answer. Assumes nothing.
+use mathlib.Core.Path.{_≡_, refl}
+use mathlib.Core.Bool.{Bool, true, false}
+use mathlib.Core.List.{List, [], _∷_}
+use Prim.Native.Nat.{ℕ, _+_}
+use Rattle.laws.specs.Pick.{pick}
+use Rattle.laws.specs.Place.{found, lowest, lowestFree}
+use Rattle.laws.specs.Every.{every, count}
+use Rattle.cap.specs.Slot.{vacant, holding}
+use Rattle.cap.specs.Id.{idOf}
+use Rattle.cap.specs.Word.{orVacant, readWord, slotsOf}
+use Rattle.cap.specs.declared.CapId.{CapId}
+use Rattle.mint.specs.Generation.{nextGeneration}
+use Rattle.ipc.specs.State.{nobody}
+use Rattle.ipc.specs.Counts.{raised}
+use Rattle.ipc.specs.Make.{sizesOf}
+use Rattle.ipc.specs.Create.{createOf}
+use Rattle.ipc.specs.Send.{sendOf}
+use Rattle.ipc.specs.Receive.{recvOf, parkOf, waiting}
+use Rattle.ipc.specs.Holds.{registered, registeredAll, registerOf, released, releasedAll, releaseOf}
+use Rattle.ipc.specs.Revoke.{killed, wiped, revokeOf}
+use Rattle.ipc.specs.Waiters.{withoutWaiter, clearOf}
+use Rattle.ipc.specs.Opening.{openOf, openAny, openHold, opened, openingOf, anyRightOf, holdOf}
+use Rattle.ipc.specs.Views.{heldBy, heldIn}
+use Rattle.ipc.specs.declared.state.Message.{Message}
+use Rattle.ipc.specs.declared.state.TaskId.{TaskId}
+use Rattle.ipc.specs.declared.answers.SendAnswer as send
+use Rattle.ipc.specs.declared.answers.ParkAnswer.the-variants.{Parked}
+use Rattle.ipc.specs.declared.answers.ReleaseAnswer.the-variants.{Released}
+use Rattle.ipc.specs.declared.answers.RevokeAnswer.the-variants.{Revoked}
+use Rattle.ipc.specs.declared.answers.ClearAnswer.the-variants.{Cleared}
+use Rattle.history.specs.Calls as call
+use Rattle.history.specs.Calls.{Call, Answer, answer, after}
+use Rattle.history.specs.World.{World, but, ifCreated, onCreation, step, run, start, Reached, fresh}
+use Rattle.history.specs.Channels.{leads}
+use Rattle.history.specs.Waits.{ends, takesLast, waitsEnded, turnOf, Quiet, none, more, ParkedOn}
+use Rattle.history.proofs.Kept.{reached-run}
+use Rattle.history.proofs.Waits.{parked-named}
+
+-- ---- the ids of the first and the second channel, made in a fresh table: the endpoints in order, with generations 1 and 2
+abbrev sender₁ : CapId
+sender₁ = idOf 0 1
+
+abbrev receiver₁ : CapId
+receiver₁ = idOf 1 1
+
+abbrev sender₂ : CapId
+sender₂ = idOf 2 2
+
+abbrev receiver₂ : CapId
+receiver₂ = idOf 3 2
+
+-- a present id as a word
+abbrev word : CapId → ℕ
+word c = 4294967296 + c .raw
+
+abbrev task₁ : TaskId
+task₁ = record { slot = 2; epoch = 0 }
+
+abbrev task₂ : TaskId
+task₂ = record { slot = 3; epoch = 7 }
+
+abbrev hello : Message
+hello = record { tag = 7; a = 1; b = 2 }
+
+-- ---- the runs
+-- one channel, ephemeral or not, with its send end held by the words, and the task parked on it
+abbrev before : Bool → List ℕ → World
+before ephemeral words = run (start (sizesOf 1 2 1)) (call.create ephemeral ∷ call.register words ∷ [])
+
+abbrev parked : Bool → List ℕ → World
+parked ephemeral words = step (before ephemeral words) (call.park receiver₁ task₁)
+
+abbrev once : List ℕ
+once = word sender₁ ∷ []
+
+abbrev twice : List ℕ
+twice = word sender₁ ∷ word sender₁ ∷ []
+
+-- two ephemeral channels, each held once, with a task parked on each
+abbrev both : World
+both =
+    run (start (sizesOf 2 4 1))
+    (call.create true ∷ call.create true ∷ call.register (word sender₁ ∷ word sender₂ ∷ []) ∷ call.park receiver₁ task₁ ∷ call.park receiver₂ task₂ ∷ [])
+
+-- ---- what is computed
+abbrev says : World → Call → Answer
+says w c = answer (w .table) c
+
+record Computed : Type 0 where
+  -- the park is answered Parked, and calls that end no wait follow
+  pub parks : says (before true once) (call.park receiver₁ task₁) ≡ call.parked Parked
+  pub quiet : Quiet (parked true once) 1 0 task₁ (call.park receiver₁ task₁ ∷ call.receive receiver₁ ∷ call.send receiver₁ hello ∷ call.register once ∷ call.clear task₂ ∷ call.release (holding sender₁) vacant vacant vacant ∷ [])
+  -- each of the calls that end it
+  pub send-ends : ends (parked true once) 1 0 task₁ (call.send sender₁ hello) ≡ true
+  pub send-names : says (parked true once) (call.send sender₁ hello) ≡ call.sent (send.the-variants.Sent (waiting task₁))
+  pub revocation-ends : ends (parked true once) 1 0 task₁ (call.revoke sender₁) ≡ true
+  pub revocation-names : says (parked true once) (call.revoke sender₁) ≡ call.revoked (Revoked (waiting task₁))
+  pub either-id-names : says (parked true once) (call.revoke receiver₁) ≡ call.revoked (Revoked (waiting task₁))
+  pub release-ends : ends (parked true once) 1 0 task₁ (call.release vacant (holding sender₁) vacant vacant) ≡ true
+  pub release-names : says (parked true once) (call.release vacant (holding sender₁) vacant vacant) ≡ call.released Released (waiting task₁ ∷ nobody ∷ nobody ∷ nobody ∷ [])
+  pub clearing-ends : ends (parked true once) 1 0 task₁ (call.clear task₁) ≡ true
+  pub clearing-counts : says (parked true once) (call.clear task₁) ≡ call.cleared (Cleared 1)
+  -- of two holds a release of one leaves one, and a channel that is not ephemeral needs none
+  pub one-left : says (parked true twice) (call.release (holding sender₁) vacant vacant vacant) ≡ call.released Released (nobody ∷ nobody ∷ nobody ∷ nobody ∷ [])
+  pub none-left : says (parked true twice) (call.release (holding sender₁) vacant (holding sender₁) vacant) ≡ call.released Released (waiting task₁ ∷ nobody ∷ nobody ∷ nobody ∷ [])
+  pub not-ephemeral : says (parked false once) (call.release (holding sender₁) vacant vacant vacant) ≡ call.released Released (nobody ∷ nobody ∷ nobody ∷ nobody ∷ [])
+  -- waiters in list order: the second channel's slot stands first, so that the first channel's waiter has the second turn
+  pub in-order : says both (call.release vacant (holding sender₂) (holding sender₁) vacant) ≡ call.released Released (waiting task₂ ∷ waiting task₁ ∷ nobody ∷ nobody ∷ [])
+  pub turn : turnOf (both .table) 0 [] (vacant ∷ holding sender₂ ∷ holding sender₁ ∷ vacant ∷ []) ≡ 1
+
+computed : Computed
+unfolding answer after step run onCreation ifCreated but createOf sendOf recvOf parkOf registerOf registeredAll registered releaseOf releasedAll released revokeOf killed wiped clearOf withoutWaiter openingOf openOf openHold openAny holdOf anyRightOf opened pick found lowest lowestFree every count slotsOf orVacant readWord nextGeneration raised heldBy heldIn leads ends takesLast waitsEnded turnOf
+computed =
+    record {
+      parks = refl;
+      quiet = more refl (more refl (more refl (more refl (more refl (more refl none)))));
+      send-ends = refl;
+      send-names = refl;
+      revocation-ends = refl;
+      revocation-names = refl;
+      either-id-names = refl;
+      release-ends = refl;
+      release-names = refl;
+      clearing-ends = refl;
+      clearing-counts = refl;
+      one-left = refl;
+      none-left = refl;
+      not-ephemeral = refl;
+      in-order = refl;
+      turn = refl;
+    }
+
+-- ---- the theorem, of this run
+pub example : ParkedOn (before true once) receiver₁ task₁
+example = parked-named (before true once) (reached-run (fresh (sizesOf 1 2 1) refl) (call.create true ∷ call.register once ∷ [])) receiver₁ task₁ (computed .parks)
