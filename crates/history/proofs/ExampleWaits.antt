@@ -4,6 +4,7 @@ use mathlib.Core.Path.{_≡_, refl}
 use mathlib.Core.Bool.{Bool, true, false}
 use mathlib.Core.List.{List, [], _∷_}
 use Prim.Native.Nat.{ℕ, _+_}
+use lib.ListN.{getD}
 use Rattle.laws.specs.Pick.{pick}
 use Rattle.laws.specs.Place.{found, lowest, lowestFree}
 use Rattle.laws.specs.Every.{every, count}
@@ -11,20 +12,21 @@ use Rattle.cap.specs.Slot.{vacant, holding}
 use Rattle.cap.specs.Id.{idOf}
 use Rattle.cap.specs.Word.{orVacant, readWord, slotsOf}
 use Rattle.cap.specs.declared.CapId.{CapId}
+use Rattle.cap.specs.declared.slot.Slot.{Slot}
 use Rattle.mint.specs.Generation.{nextGeneration}
-use Rattle.ipc.specs.State.{nobody}
 use Rattle.ipc.specs.Counts.{raised}
 use Rattle.ipc.specs.Make.{sizesOf}
 use Rattle.ipc.specs.Create.{createOf}
 use Rattle.ipc.specs.Send.{sendOf}
 use Rattle.ipc.specs.Receive.{recvOf, parkOf, waiting}
-use Rattle.ipc.specs.Holds.{registered, registeredAll, registerOf, released, releasedAll, releaseOf}
+use Rattle.ipc.specs.Holds.{fourOf, registered, registeredAll, registerOf, released, releasedAll, releaseOf}
 use Rattle.ipc.specs.Revoke.{killed, wiped, revokeOf}
 use Rattle.ipc.specs.Waiters.{withoutWaiter, clearOf}
 use Rattle.ipc.specs.Opening.{openOf, openAny, openHold, opened, openingOf, anyRightOf, holdOf}
 use Rattle.ipc.specs.Views.{heldBy, heldIn}
 use Rattle.ipc.specs.declared.state.Message.{Message}
 use Rattle.ipc.specs.declared.state.TaskId.{TaskId}
+use Rattle.ipc.specs.declared.state.Waiter.{Waiter}
 use Rattle.ipc.specs.declared.answers.SendAnswer as send
 use Rattle.ipc.specs.declared.answers.ParkAnswer.the-variants.{Parked}
 use Rattle.ipc.specs.declared.answers.ReleaseAnswer.the-variants.{Released}
@@ -32,7 +34,7 @@ use Rattle.ipc.specs.declared.answers.RevokeAnswer.the-variants.{Revoked}
 use Rattle.ipc.specs.declared.answers.ClearAnswer.the-variants.{Cleared}
 use Rattle.history.specs.Calls as call
 use Rattle.history.specs.Calls.{Call, Answer, answer, after}
-use Rattle.history.specs.World.{World, but, ifCreated, onCreation, step, run, start, Reached, fresh}
+use Rattle.history.specs.World.{World, but, ifCreated, onCreation, step, run, start, fresh}
 use Rattle.history.specs.Channels.{leads}
 use Rattle.history.specs.Waits.{ends, takesLast, waitsEnded, turnOf, Quiet, none, more, ParkedOn}
 use Rattle.history.proofs.Kept.{reached-run}
@@ -78,58 +80,98 @@ once = word sender₁ ∷ []
 abbrev twice : List ℕ
 twice = word sender₁ ∷ word sender₁ ∷ []
 
--- two ephemeral channels, each held once, with a task parked on each
+-- two ephemeral channels, each held once, with a task parked on the first, and with another on the second
+abbrev first : World
+first =
+    run (start (sizesOf 2 4 1)) (call.create true ∷ call.create true ∷ call.register (word sender₁ ∷ word sender₂ ∷ []) ∷ call.park receiver₁ task₁ ∷ [])
+
 abbrev both : World
-both =
-    run (start (sizesOf 2 4 1))
-    (call.create true ∷ call.create true ∷ call.register (word sender₁ ∷ word sender₂ ∷ []) ∷ call.park receiver₁ task₁ ∷ call.park receiver₂ task₂ ∷ [])
+both = step first (call.park receiver₂ task₂)
 
 -- ---- what is computed
+-- what a call answers, and whether it ends the first task's wait on channel 1, in mailbox 0
 abbrev says : World → Call → Answer
 says w c = answer (w .table) c
 
+abbrev ending : World → Call → Bool
+ending w c = ends w 1 0 task₁ c
+
+abbrev releasing : List Slot → Call
+releasing ss = call.release (getD ss 0 vacant) (getD ss 1 vacant) (getD ss 2 vacant) (getD ss 3 vacant)
+
+abbrev naming : List Waiter → Answer
+naming ws = call.released Released (fourOf ws)
+
 record Computed : Type 0 where
-  -- the park is answered Parked, and calls that end no wait follow
+  -- the park is answered Parked, and calls may follow that end no wait
   pub parks : says (before true once) (call.park receiver₁ task₁) ≡ call.parked Parked
-  pub quiet : Quiet (parked true once) 1 0 task₁ (call.park receiver₁ task₁ ∷ call.receive receiver₁ ∷ call.send receiver₁ hello ∷ call.register once ∷ call.clear task₂ ∷ call.release (holding sender₁) vacant vacant vacant ∷ [])
-  -- each of the calls that end it
-  pub send-ends : ends (parked true once) 1 0 task₁ (call.send sender₁ hello) ≡ true
+  pub quiet :
+      Quiet (parked true once) 1 0 task₁
+      (call.park receiver₁ task₁ ∷ call.park receiver₁ task₂ ∷ call.receive receiver₁ ∷ call.queued receiver₁ ∷ call.clear task₂ ∷ call.register once ∷ releasing (holding sender₁ ∷ []) ∷ [])
+  -- a send that is accepted, and one by the receive id, which is refused
+  pub send-ends : ending (parked true once) (call.send sender₁ hello) ≡ true
   pub send-names : says (parked true once) (call.send sender₁ hello) ≡ call.sent (send.the-variants.Sent (waiting task₁))
-  pub revocation-ends : ends (parked true once) 1 0 task₁ (call.revoke sender₁) ≡ true
+  pub refused-ends : ending (parked true once) (call.send receiver₁ hello) ≡ false
+  pub refused-names : says (parked true once) (call.send receiver₁ hello) ≡ call.sent send.the-variants.BadCap
+  -- a revocation by either id
+  pub revocation-ends : ending (parked true once) (call.revoke sender₁) ≡ true
   pub revocation-names : says (parked true once) (call.revoke sender₁) ≡ call.revoked (Revoked (waiting task₁))
+  pub either-id-ends : ending (parked true once) (call.revoke receiver₁) ≡ true
   pub either-id-names : says (parked true once) (call.revoke receiver₁) ≡ call.revoked (Revoked (waiting task₁))
-  pub release-ends : ends (parked true once) 1 0 task₁ (call.release vacant (holding sender₁) vacant vacant) ≡ true
-  pub release-names : says (parked true once) (call.release vacant (holding sender₁) vacant vacant) ≡ call.released Released (waiting task₁ ∷ nobody ∷ nobody ∷ nobody ∷ [])
-  pub clearing-ends : ends (parked true once) 1 0 task₁ (call.clear task₁) ≡ true
+  -- a release of the last hold, of one hold in two, of two in two, and of the last hold where the channel is not ephemeral
+  pub release-ends : ending (parked true once) (releasing (vacant ∷ holding sender₁ ∷ [])) ≡ true
+  pub release-names : says (parked true once) (releasing (vacant ∷ holding sender₁ ∷ [])) ≡ naming (waiting task₁ ∷ [])
+  pub one-left-ends : ending (parked true twice) (releasing (holding sender₁ ∷ [])) ≡ false
+  pub one-left-names : says (parked true twice) (releasing (holding sender₁ ∷ [])) ≡ naming []
+  pub none-left-ends : ending (parked true twice) (releasing (holding sender₁ ∷ vacant ∷ holding sender₁ ∷ [])) ≡ true
+  pub none-left-names : says (parked true twice) (releasing (holding sender₁ ∷ vacant ∷ holding sender₁ ∷ [])) ≡ naming (waiting task₁ ∷ [])
+  pub lasting-ends : ending (parked false once) (releasing (holding sender₁ ∷ [])) ≡ false
+  pub lasting-names : says (parked false once) (releasing (holding sender₁ ∷ [])) ≡ naming []
+  -- a clearing
+  pub clearing-ends : ending (parked true once) (call.clear task₁) ≡ true
   pub clearing-counts : says (parked true once) (call.clear task₁) ≡ call.cleared (Cleared 1)
-  -- of two holds a release of one leaves one, and a channel that is not ephemeral needs none
-  pub one-left : says (parked true twice) (call.release (holding sender₁) vacant vacant vacant) ≡ call.released Released (nobody ∷ nobody ∷ nobody ∷ nobody ∷ [])
-  pub none-left : says (parked true twice) (call.release (holding sender₁) vacant (holding sender₁) vacant) ≡ call.released Released (waiting task₁ ∷ nobody ∷ nobody ∷ nobody ∷ [])
-  pub not-ephemeral : says (parked false once) (call.release (holding sender₁) vacant vacant vacant) ≡ call.released Released (nobody ∷ nobody ∷ nobody ∷ nobody ∷ [])
   -- waiters in list order: the second channel's slot stands first, so that the first channel's waiter has the second turn
-  pub in-order : says both (call.release vacant (holding sender₂) (holding sender₁) vacant) ≡ call.released Released (waiting task₂ ∷ waiting task₁ ∷ nobody ∷ nobody ∷ [])
-  pub turn : turnOf (both .table) 0 [] (vacant ∷ holding sender₂ ∷ holding sender₁ ∷ vacant ∷ []) ≡ 1
+  pub order-ends : ending both (releasing (vacant ∷ holding sender₂ ∷ holding sender₁ ∷ [])) ≡ true
+  pub order-names : says both (releasing (vacant ∷ holding sender₂ ∷ holding sender₁ ∷ [])) ≡ naming (waiting task₂ ∷ waiting task₁ ∷ [])
+  pub order-turn : turnOf (both .table) 0 [] (vacant ∷ holding sender₂ ∷ holding sender₁ ∷ vacant ∷ []) ≡ 1
+  -- where nobody waits on the second channel, it is named at the first place
+  pub alone-names : says first (releasing (vacant ∷ holding sender₂ ∷ holding sender₁ ∷ [])) ≡ naming (waiting task₁ ∷ [])
+  pub alone-turn : turnOf (first .table) 0 [] (vacant ∷ holding sender₂ ∷ holding sender₁ ∷ vacant ∷ []) ≡ 0
+  -- an accepted send on the other channel is none on this one
+  pub other-ends : ending both (call.send sender₂ hello) ≡ false
+  pub other-names : says both (call.send sender₂ hello) ≡ call.sent (send.the-variants.Sent (waiting task₂))
 
 computed : Computed
 unfolding answer after step run onCreation ifCreated but createOf sendOf recvOf parkOf registerOf registeredAll registered releaseOf releasedAll released revokeOf killed wiped clearOf withoutWaiter openingOf openOf openHold openAny holdOf anyRightOf opened pick found lowest lowestFree every count slotsOf orVacant readWord nextGeneration raised heldBy heldIn leads ends takesLast waitsEnded turnOf
 computed =
     record {
       parks = refl;
-      quiet = more refl (more refl (more refl (more refl (more refl (more refl none)))));
+      quiet = more refl (more refl (more refl (more refl (more refl (more refl (more refl none))))));
       send-ends = refl;
       send-names = refl;
+      refused-ends = refl;
+      refused-names = refl;
       revocation-ends = refl;
       revocation-names = refl;
+      either-id-ends = refl;
       either-id-names = refl;
       release-ends = refl;
       release-names = refl;
+      one-left-ends = refl;
+      one-left-names = refl;
+      none-left-ends = refl;
+      none-left-names = refl;
+      lasting-ends = refl;
+      lasting-names = refl;
       clearing-ends = refl;
       clearing-counts = refl;
-      one-left = refl;
-      none-left = refl;
-      not-ephemeral = refl;
-      in-order = refl;
-      turn = refl;
+      order-ends = refl;
+      order-names = refl;
+      order-turn = refl;
+      alone-names = refl;
+      alone-turn = refl;
+      other-ends = refl;
+      other-names = refl;
     }
 
 -- ---- the theorem, of this run

@@ -8,23 +8,19 @@ use native.Mathlib.Omega.{arith}
 use Rattle.laws.proofs.Bools.{either}
 use Rattle.laws.proofs.Cases.{not-both}
 use Rattle.cap.specs.Rights.{receiveRight}
-use Rattle.cap.specs.declared.CapId.{CapId}
 use Rattle.ipc.specs.State.{nobody, mailboxLive}
-use Rattle.ipc.specs.Opening.{openingOf}
 use Rattle.ipc.specs.Receive.{parkOf, waiting}
 use Rattle.ipc.specs.Views.{waiterOf}
 use Rattle.ipc.specs.declared.state.TaskId.{TaskId}
 use Rattle.ipc.specs.declared.state.Waiter.{Waiter}
 use Rattle.ipc.specs.declared.state.Table.{Table}
-use Rattle.ipc.specs.declared.answers.ParkAnswer.the-variants.{Parked}
-use Rattle.ipc.specs.declared.opening.Opening.the-variants.{Opens}
 use Rattle.ipc.proofs.Openings.{opens-live}
 use Rattle.ipc.proofs.AfterPark as park
 use Rattle.history.specs.Calls as call
 use Rattle.history.specs.Calls.{Call, answer, after}
 use Rattle.history.specs.World.{World, step, run, Reached, then}
 use Rattle.history.specs.Channels.{Houses}
-use Rattle.history.specs.Waits.{Waits, ends, Names, Clears, Ended, Quiet, none, more, First, NamedFirst, Fate, waits, ended, ParkedOn, ParkedNamed}
+use Rattle.history.specs.Waits.{Waits, ends, Ended, Quiet, none, more, First, NamedFirst, Fate, waits, ended, ParkedOn, ParkedNamed}
 use Rattle.history.proofs.Kept.{step-table, after-sound}
 use Rattle.history.proofs.Shrinks.{lived}
 use Rattle.history.proofs.Steps.{StepWays, settles, births, step-ways}

@@ -1,11 +1,11 @@
 -- What each call does to a task that waits: it waits on, or it is named or cleared and waits no more. Assumes nothing.
 use mathlib.Core.Path.{_≡_, refl, sym, ap, subst, _∙_}
 use mathlib.Core.Bool.{Bool, true, false, _&&_}
-use mathlib.Core.List.{List, [], _∷_}
+use mathlib.Core.List.{List, []}
 use mathlib.Core.Logic.{_⊎_, inl, inr, ⊎-elim}
-use Prim.Native.Nat.{ℕ, zero, suc, _-_, _≤_, _<_}
+use Prim.Native.Nat.{ℕ, zero, suc, _-_, _≤_}
 use native.Mathlib.Omega.{arith}
-use borrow.Author.Tests.{eqb-true, eqb-false, eq-eqb, ne-eqb}
+use borrow.Author.Tests.{eqb-true, eq-eqb, ne-eqb}
 use lib.Dec.{eqb}
 use lib.ListN.{getD, length, List·getD-eq-default}
 use Rattle.laws.specs.Refusals as no
@@ -16,13 +16,10 @@ use Rattle.cap.specs.Rights.{sendRight}
 use Rattle.cap.specs.declared.CapId.{CapId}
 use Rattle.cap.specs.declared.slot.Slot.{Slot}
 use Rattle.ipc.specs.State.{nobody, mailboxLive}
-use Rattle.ipc.specs.Sound.{Sound}
-use Rattle.ipc.specs.Opening.{openingOf, anyRightOf, opened}
+use Rattle.ipc.specs.Opening.{opened}
 use Rattle.ipc.specs.Answers.{sendNumber}
-use Rattle.ipc.specs.Send.{sendOf}
-use Rattle.ipc.specs.Receive.{recvOf, parkOf, sameTask, waiting}
-use Rattle.ipc.specs.Holds.{registerOf, fourOf, releaseOf, releasedAll}
-use Rattle.ipc.specs.Revoke.{revokeOf}
+use Rattle.ipc.specs.Receive.{sameTask, waiting}
+use Rattle.ipc.specs.Holds.{fourOf, releaseOf, releasedAll}
 use Rattle.ipc.specs.Waiters.{clearOf}
 use Rattle.ipc.specs.Views.{waiterOf, holdsOf, ephemeralOf, heldIn, Alike}
 use Rattle.ipc.specs.declared.state.Message.{Message}
@@ -46,14 +43,14 @@ use Rattle.ipc.proofs.AfterReceive as recv
 use Rattle.ipc.proofs.AfterPark as park
 use Rattle.ipc.proofs.AfterRegister as register
 use Rattle.ipc.proofs.AfterRevoke as revoke
-use Rattle.ipc.proofs.AfterReleaseAll.{ReleasedAt, released-in}
+use Rattle.ipc.proofs.AfterReleaseAll.{released-in}
 use Rattle.ipc.proofs.AfterClear.{clear-clears}
 use Rattle.ipc.proofs.AfterCounts.{authority-only, full-only, state-only, note-authority-only, note-state-only}
 use Rattle.ipc.proofs.AfterCreate.{create-others}
 use Rattle.history.specs.Calls as call
 use Rattle.history.specs.Calls.{Call, answer, after, fourSlots}
 use Rattle.history.specs.World.{World}
-use Rattle.history.specs.Channels.{Houses, leads, on, onAny}
+use Rattle.history.specs.Channels.{leads, on, onAny}
 use Rattle.history.specs.Waits.{Waits, ends, turnOf, Names, by-send, by-revocation, by-release, Clears, clears}
 use Rattle.history.proofs.Tidy.{Tidy}
 use Rattle.history.proofs.WaitsTurn.{release-turn}

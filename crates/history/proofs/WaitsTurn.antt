@@ -1,17 +1,17 @@
 -- A release answers who is woken at the place of its turn in the list. Assumes nothing.
 use mathlib.Core.Path.{_≡_, refl, sym, ap, _∙_}
-use mathlib.Core.Bool.{Bool, true, false, _&&_}
+use mathlib.Core.Bool.{true, false, _&&_}
 use mathlib.Core.List.{List, [], _∷_, _++_}
 use mathlib.Core.Logic.{⊎-elim}
 use Prim.Native.Nat.{ℕ, suc, _+_, _-_, _<_, _≤_}
 use native.Mathlib.Omega.{arith}
-use borrow.Author.Tests.{eqb-true, eqb-false, eq-eqb, ne-eqb}
+use borrow.Author.Tests.{eqb-true, eq-eqb, ne-eqb}
 use lib.Dec.{eqb}
 use lib.ListN.{getD}
 use Rattle.laws.specs.Pick.{pick}
 use Rattle.laws.proofs.Bools.{either, same?, and-three}
 use Rattle.laws.proofs.Cases.{all-pick, not-both}
-use Rattle.laws.proofs.Every.{and-left, and-right, and-both}
+use Rattle.laws.proofs.Every.{and-right, and-both}
 use Rattle.cap.specs.declared.slot.Slot.{Slot}
 use Rattle.ipc.specs.State.{nobody}
 use Rattle.ipc.specs.Sound.{Sound}
@@ -22,7 +22,7 @@ use Rattle.ipc.specs.declared.state.Waiter.{Waiter}
 use Rattle.ipc.specs.declared.state.Table.{Table}
 use Rattle.ipc.specs.declared.opening.Opening.the-variants.{Opens, Shut}
 use Rattle.ipc.proofs.Changes.{steady-same, steady-then}
-use Rattle.ipc.proofs.Held.{held-none, held-one, held-other, held-steady}
+use Rattle.ipc.proofs.Held.{held-none, held-one, held-other}
 use Rattle.ipc.proofs.KeepsCalls.{released-kept}
 use Rattle.ipc.proofs.Openings.{all-opened}
 use Rattle.ipc.proofs.OtherOpenings.{hold-steady}
