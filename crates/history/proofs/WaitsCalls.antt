@@ -31,7 +31,6 @@ use Rattle.ipc.specs.declared.answers.SendAnswer.the-variants.{Sent}
 use Rattle.ipc.specs.declared.answers.Receiving.{Receiving}
 use Rattle.ipc.specs.declared.answers.Parking.{Parking}
 use Rattle.ipc.specs.declared.answers.Registering.{Registering}
-use Rattle.ipc.specs.declared.answers.ReleaseAnswer.{ReleaseAnswer}
 use Rattle.ipc.specs.declared.answers.ReleaseAnswer.the-variants.{Released}
 use Rattle.ipc.specs.declared.answers.Revoking.{Revoking}
 use Rattle.ipc.specs.declared.answers.RevokeAnswer.the-variants.{Revoked}
@@ -138,9 +137,9 @@ module _ (w : World) (τ : Tidy w) (n k : ℕ) (x : TaskId) (h : Waits w n k x) 
       (same? (holdsOf t k - heldIn t k ss) 0)))))
       (either (leavesNone ss))
 
-  answers : (ss : List Slot) → releaseOf t ss .answer ≡ Released
-  unfolding releaseOf
-  answers ss = refl
+  release-answers : (s₁ s₂ s₃ s₄ : Slot) → answer t (call.release s₁ s₂ s₃ s₄) ≡ call.released Released (releaseOf t (fourSlots s₁ s₂ s₃ s₄) .waiters)
+  unfolding answer releaseOf
+  release-answers s₁ s₂ s₃ s₄ = refl
 
   -- ---- clearing
   clear-out : (y : TaskId) → Outcome t (clearOf t y .table) k (Clears x (call.clear y)) (sameTask x y)
@@ -180,7 +179,7 @@ module _ (w : World) (τ : Tidy w) (n k : ℕ) (x : TaskId) (h : Waits w n k x) 
   outcome (call.queued c) = stays refl refl
   outcome (call.revoke c) = then (λ e. inl (by-revocation (ap call.revoked e))) (revoke-out c _ (revoke.revoke-ways t c (τ .sound)))
   outcome (call.register words) = register-out words _ (register.register-call-ways t words (τ .sound))
-  outcome (call.release s₁ s₂ s₃ s₄) = then (λ e. inl (by-release _ (ap (λ (a : ReleaseAnswer). call.released a (releaseOf t (fourSlots s₁ s₂ s₃ s₄) .waiters)) (answers (fourSlots s₁ s₂ s₃ s₄))) e)) (release-out (fourSlots s₁ s₂ s₃ s₄) refl)
+  outcome (call.release s₁ s₂ s₃ s₄) = then (λ e. inl (by-release _ (release-answers s₁ s₂ s₃ s₄) e)) (release-out (fourSlots s₁ s₂ s₃ s₄) refl)
   outcome (call.holders c) = stays refl refl
   outcome (call.clear y) = then inr (clear-out y)
   outcome call.noteAuthority = alike-stays (note-authority-only t .mailboxes k)

@@ -1,15 +1,17 @@
 -- Demand 3: "A parked task is named by the first later accepted send on its channel, its revocation, or, if ephemeral, the release that
 -- leaves no send hold, whichever comes first, unless a clearing of that task comes sooner. Nothing else ends the wait."
 --
---   "a parked task"                            a park answered Parked makes task x wait on the channel that its id opens: `ParkedOn`, `Waits`
---   "is named by"                              the call's answer has x, at its place: `Names`
---   "accepted send on its channel"             `ends`, at send: the id opens channel n for send, and the answer's number is 0
---   "its revocation"                           `ends`, at revoke: the id opens channel n as a revocation asks, by either right
---   "if ephemeral, the release that leaves     `ends`, at release: the channel was created ephemeral, and its holds less the slots, among the
---   no send hold"                              release's four, that hold its send end are 0
---   "unless a clearing of that task"           `ends`, at clear: the task that is cleared is x; such a call answers a number, and `Clears` says that it is one
---   "first", "whichever comes first", "sooner" each call before it is none of these: `Quiet`, `First`
---   "nothing else ends the wait"               through every `Quiet` run x waits on, and every run is quiet or has a first ender: `NamedFirst`, `ParkedNamed`
+-- "A parked task": a park through an id, answered Parked, makes task x wait on channel n, the one that the id opens (`ParkedOn`, `Waits`).
+-- "is named by": the answer of the call has x. A send and a revocation answer one waiter; a release answers four places, and x stands at
+--     the place of its turn in the list, `turnOf` (`Names`).
+-- "accepted send on its channel": `ends` at `send`. The id opens channel n for send, and the answer's number is 0, for accepted.
+-- "its revocation": `ends` at `revoke`. The id opens channel n as a revocation asks, by either right.
+-- "if ephemeral, the release that leaves no send hold": `ends` at `release`. The channel was created ephemeral, and its holds, less those of
+--     the four slots that hold its send end, are 0. Holds are the table's count of them, which stops at 4,294,967,295.
+-- "a clearing of that task": `ends` at `clear`. The task that is cleared is x. Such a call answers how many it cleared (`Clears`).
+-- "the first later", "whichever comes first", "sooner": no call before it is one of these (`Quiet`, `First`).
+-- "Nothing else ends the wait": every other call is false in `ends`, and through every run of such calls x waits on. Every run is
+--     of such calls alone, or has a first that ends the wait (`NamedFirst`, `Fate`, `ParkedNamed`).
 use mathlib.Core.Path.{_≡_}
 use mathlib.Core.Bool.{Bool, true, false, _&&_}
 use mathlib.Core.List.{List, [], _∷_, _++_}
