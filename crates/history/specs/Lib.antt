@@ -6,3 +6,4 @@ pub mod Ids
 pub mod Refusals
 pub mod Public
 pub mod Waits
+pub mod Messages
