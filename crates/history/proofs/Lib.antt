@@ -13,3 +13,5 @@ pub mod WaitsTurn
 pub mod WaitsCalls
 pub mod Waits
 pub mod ExampleWaits
+pub mod Turns
+pub mod Messages

@@ -1,0 +1,185 @@
+-- Demand 3, its sentence on messages: over a run that does not revoke a channel the turns of the calls add up, and so a message that was
+-- accepted behind q others is given by the (q+1)-th call that gives, once. Assumes nothing.
+use mathlib.Core.Path.{_≡_, refl, sym, ap, _∙_}
+use mathlib.Core.Bool.{true, false}
+use mathlib.Core.List.{List, [], _∷_, _++_, append-nil, append-assoc}
+use Prim.Native.Nat.{ℕ, suc, _+_, _-_, _≤_, _<_}
+use native.Mathlib.Omega.{arith}
+use lib.ListN.{getD, length, take, drop, length-append, List·getD-append}
+use lib.Seq.{getD-append-seam, getD-append-add, take-append-seam, drop-append-seam}
+use Rattle.laws.proofs.Cases.{all-pick}
+use Rattle.cap.specs.Rights.{receiveRight}
+use Rattle.cap.specs.declared.CapId.{CapId}
+use Rattle.ipc.specs.State.{freshMessage}
+use Rattle.ipc.specs.Views.{queueOf}
+use Rattle.ipc.specs.declared.state.Message.{Message}
+use Rattle.ipc.specs.declared.answers.RecvAnswer as recv
+use Rattle.ipc.specs.declared.answers.ParkAnswer as park
+use Rattle.history.specs.Calls.{Call, create, send, receive, park, queued, revoke, register, release, holders, clear, noteAuthority, noteState, counts}
+use Rattle.history.specs.World.{World, step, run, Reached}
+use Rattle.history.specs.Channels.{Houses, on}
+use Rattle.history.specs.Messages.{byReceive, byPark, accepted, given, revokes, allAccepted, allGiven, Spares, none, more, OneOrNone, InOrder, AcceptedBehind, GivenInTurn, Once, GivenOnce, WaitsItsTurn}
+use Rattle.history.proofs.Tidy.{Tidy, step-grows, run-grows, reached-tidy}
+use Rattle.history.proofs.Turns.{turn}
+
+-- ---- a call gives one message or none
+abbrev Few : List Message → Type 0
+Few l = length l ≤ 1
+
+few-received : (a : recv.RecvAnswer) → Few (byReceive a)
+unfolding byReceive
+few-received (recv.the-variants.Received m) = omega arith
+few-received recv.the-variants.BadCap = omega arith
+few-received recv.the-variants.Empty = omega arith
+few-received recv.the-variants.BadTable = omega arith
+
+few-parked : (a : park.ParkAnswer) → Few (byPark a)
+unfolding byPark
+few-parked (park.the-variants.Given m) = omega arith
+few-parked park.the-variants.Parked = omega arith
+few-parked park.the-variants.BadCap = omega arith
+few-parked park.the-variants.Busy = omega arith
+few-parked park.the-variants.Cancelled = omega arith
+few-parked park.the-variants.BadTable = omega arith
+
+pub one-or-none : OneOrNone
+unfolding given
+one-or-none w n (create b) = omega arith
+one-or-none w n (send c m) = omega arith
+one-or-none w n (receive c) = all-pick Few (on w n c receiveRight) _ _ (λ _. few-received _) (λ _. omega arith)
+one-or-none w n (park c task) = all-pick Few (on w n c receiveRight) _ _ (λ _. few-parked _) (λ _. omega arith)
+one-or-none w n (queued c) = omega arith
+one-or-none w n (revoke c) = omega arith
+one-or-none w n (register words) = omega arith
+one-or-none w n (release x y z v) = omega arith
+one-or-none w n (holders c) = omega arith
+one-or-none w n (clear task) = omega arith
+one-or-none w n noteAuthority = omega arith
+one-or-none w n noteState = omega arith
+one-or-none w n counts = omega arith
+
+-- a call that gives a message accepts none and revokes nothing
+record OnlyGives (w : World) (n : ℕ) (c : Call) : Type 0 where
+  pub accepts-none : accepted w n c ≡ []
+  pub spares : revokes w n c ≡ false
+
+nothing : {A : Type 0} {x : Message} → [] ≡ x ∷ [] → A
+nothing e = let l : _≡_ {A = ℕ} 0 1 = ap length e in absurd (omega arith)
+
+only-gives : (w : World) (n : ℕ) (x : Message) (c : Call) → given w n c ≡ x ∷ [] → OnlyGives w n c
+unfolding given accepted revokes
+only-gives w n x (create b) g = nothing g
+only-gives w n x (send c m) g = nothing g
+only-gives w n x (receive c) g = record { accepts-none = refl; spares = refl }
+only-gives w n x (park c task) g = record { accepts-none = refl; spares = refl }
+only-gives w n x (queued c) g = nothing g
+only-gives w n x (revoke c) g = nothing g
+only-gives w n x (register words) g = nothing g
+only-gives w n x (release _ _ _ _) g = nothing g
+only-gives w n x (holders c) g = nothing g
+only-gives w n x (clear task) g = nothing g
+only-gives w n x noteAuthority g = nothing g
+only-gives w n x noteState g = nothing g
+only-gives w n x counts g = nothing g
+
+-- ---- over a run
+in-order : (w : World) → Tidy w → (n k : ℕ) → Houses w n k → {cs : List Call} → Spares w n cs →
+    Houses (run w cs) n k × (allGiven w n cs ++ queueOf (run w cs .table) k ≡ queueOf (w .table) k ++ allAccepted w n cs)
+unfolding run allGiven allAccepted
+in-order w τ n k h none = (h, sym (append-nil _))
+in-order w τ n k h (more {c = c} {cs = cs} e s) =
+    let a = turn w τ n k h c e in
+    let b = in-order (step w c) (step-grows w c τ .tidy) n k (a .houses) s in (
+      b .0,
+      append-assoc (given w n c) (allGiven (step w c) n cs) (queueOf (run (step w c) cs .table) k)
+          ∙ ap (λ (l : List Message). given w n c ++ l) (b .1)
+          ∙ sym (append-assoc (given w n c) (queueOf (step w c .table) k) (allAccepted (step w c) n cs))
+          ∙ ap (λ (l : List Message). l ++ allAccepted (step w c) n cs) (a .order)
+          ∙ append-assoc (queueOf (w .table) k) (accepted w n c) (allAccepted (step w c) n cs),
+    )
+
+pub messages-in-order : InOrder
+messages-in-order w r n k h cs s = in-order w (reached-tidy r) n k h s
+
+-- ---- one message
+-- two lists that agree, cut at the same place
+cut : (a b x y : List Message) → a ++ b ≡ x ++ y → length a ≡ length x → (a ≡ x) × (b ≡ y)
+cut a b x y e l = (
+      sym (take-append-seam a b) ∙ ap (λ (i : ℕ). take i (a ++ b)) l ∙ ap (take (length x)) e ∙ take-append-seam x y,
+      sym (drop-append-seam a b) ∙ ap (λ (i : ℕ). drop i (a ++ b)) l ∙ ap (drop (length x)) e ∙ drop-append-seam x y,
+    )
+
+module _ (w : World) (r : Reached w) (n k q : ℕ) (c : CapId) (m : Message) (a : AcceptedBehind w n k q c m) where
+  abbrev v : World
+  v = step w (send c m)
+
+  abbrev waited : List Message
+  waited = queueOf (w .table) k
+
+  v-tidy : Tidy v
+  v-tidy = step-grows w (send c m) (reached-tidy r) .tidy
+
+  v-houses : Houses v n k
+  unfolding revokes
+  v-houses = turn w (reached-tidy r) n k (a .houses) (send c m) refl .houses
+
+  -- m stands behind the others
+  queued-behind : queueOf (v .table) k ≡ waited ++ (m ∷ [])
+  unfolding given revokes
+  queued-behind = turn w (reached-tidy r) n k (a .houses) (send c m) refl .order ∙ ap (λ (l : List Message). waited ++ l) (a .accepts)
+
+  -- and then what is accepted later
+  all-in-order : (later : List Call) → Spares v n later → allGiven v n later ++ queueOf (run v later .table) k ≡ waited ++ (m ∷ allAccepted v n later)
+  all-in-order later s =
+      in-order v v-tidy n k v-houses s .1
+      ∙ ap (λ (l : List Message). l ++ allAccepted v n later) queued-behind
+      ∙ append-assoc waited (m ∷ []) (allAccepted v n later)
+
+  -- the q-th of it is m
+  at-turn : (later : List Call) → getD (waited ++ (m ∷ allAccepted v n later)) q freshMessage ≡ m
+  at-turn later =
+      ap (λ (i : ℕ). getD (waited ++ (m ∷ allAccepted v n later)) i freshMessage) (sym (a .others))
+      ∙ getD-append-seam waited m (allAccepted v n later) freshMessage
+
+  in-turn : (later : List Call) → Spares v n later → q < length (allGiven v n later) → getD (allGiven v n later) q freshMessage ≡ m
+  in-turn later s l =
+      sym (List·getD-append (allGiven v n later) (queueOf (run v later .table) k) freshMessage q l)
+      ∙ ap (λ (x : List Message). getD x q freshMessage) (all-in-order later s)
+      ∙ at-turn later
+
+  waits : (later : List Call) → Spares v n later → length (allGiven v n later) ≤ q →
+      (q - length (allGiven v n later) < length (queueOf (run v later .table) k)) × (getD (queueOf (run v later .table) k) (q - length (allGiven v n later)) freshMessage ≡ m)
+  waits later s few =
+      let out = allGiven v n later in
+      let left = queueOf (run v later .table) k in
+      let i : length out + (q - length out) ≡ q = omega arith in
+      let size : length out + length left ≡ length waited + suc (length (allAccepted v n later)) =
+      sym (length-append out left) ∙ ap length (all-in-order later s) ∙ length-append waited (m ∷ allAccepted v n later) in
+      let o = a .others in (
+        omega arith,
+        sym (getD-append-add out left (q - length out) freshMessage)
+            ∙ ap (λ (x : ℕ). getD (out ++ left) x freshMessage) i
+            ∙ ap (λ (x : List Message). getD x q freshMessage) (all-in-order later s)
+            ∙ at-turn later,
+      )
+
+  once : (before : List Call) → Spares v n before → length (allGiven v n before) ≡ q → (d : Call) (x : Message) → given (run v before) n d ≡ x ∷ [] → Once w v n k m before d x
+  once before s e d x g =
+      let u = run v before in
+      let τ = run-grows v before v-tidy .tidy in
+      let f = only-gives u n x d g in
+      let p = cut (allGiven v n before) (queueOf (u .table) k) waited (m ∷ allAccepted v n before) (all-in-order before s) (e ∙ sym (a .others)) in
+      let o = turn u τ n k (in-order v v-tidy n k v-houses s .0) d (f .spares) .order in
+      let z : x ∷ queueOf (step u d .table) k ≡ m ∷ allAccepted v n before =
+      ap (λ (l : List Message). l ++ queueOf (step u d .table) k) (sym g) ∙ o ∙ ap (λ (l : List Message). queueOf (u .table) k ++ l) (f .accepts-none) ∙ append-nil _ ∙ p .1 in
+      let y = cut (x ∷ []) (queueOf (step u d .table) k) (m ∷ []) (allAccepted v n before) z refl in
+      record { earlier = p .0; now = cc; later = y .1 }
+
+pub given-in-turn : GivenInTurn
+given-in-turn w r n k q c m a later s l = in-turn w r n k q c m a later s l
+
+pub waits-its-turn : WaitsItsTurn
+waits-its-turn w r n k q c m a later s l = waits w r n k q c m a later s l
+
+pub given-once : GivenOnce
+given-once w r n k q c m a before s e d x g = once w r n k q c m a before s e d x g
