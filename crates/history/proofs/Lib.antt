@@ -15,3 +15,4 @@ pub mod Waits
 pub mod ExampleWaits
 pub mod Turns
 pub mod Messages
+pub mod Flows

@@ -1,0 +1,93 @@
+-- Messages go in where there is room, and the oldest comes out, to each id that opens the channel. Assumes nothing.
+use mathlib.Core.Path.{_≡_, refl, sym, ap, _∙_}
+use mathlib.Core.Bool.{true, false}
+use mathlib.Core.List.{List, [], _∷_}
+use Prim.Native.Nat.{ℕ, _<_}
+use native.Mathlib.Omega.{arith}
+use lib.Dec.{eqb}
+use lib.ListN.{length}
+use Rattle.laws.specs.Pick.{pick}
+use Rattle.laws.proofs.Cases.{not-both}
+use Rattle.cap.specs.Rights.{sendRight, receiveRight}
+use Rattle.cap.specs.declared.CapId.{CapId}
+use Rattle.cap.specs.declared.CapRights.{CapRights}
+use Rattle.ipc.specs.Opening.{openingOf, opened}
+use Rattle.ipc.specs.Send.{sendOf}
+use Rattle.ipc.specs.Receive.{recvOf, parkOf}
+use Rattle.ipc.specs.Views.{queueOf}
+use Rattle.ipc.specs.declared.state.Message.{Message}
+use Rattle.ipc.specs.declared.state.TaskId.{TaskId}
+use Rattle.ipc.specs.declared.state.Table.{Table}
+use Rattle.ipc.specs.declared.answers.Receiving.{Receiving}
+use Rattle.ipc.specs.declared.answers.Parking.{Parking}
+use Rattle.ipc.specs.declared.opening.Opening.{Opening}
+use Rattle.ipc.specs.declared.opening.Opening.the-variants.{Opens, Shut}
+use Rattle.ipc.proofs.Openings.{opens-live}
+use Rattle.ipc.proofs.AfterSend as after-send
+use Rattle.ipc.proofs.AfterReceive as after-recv
+use Rattle.ipc.proofs.AfterPark as after-park
+use Rattle.history.specs.Calls.{receive, park, send}
+use Rattle.history.specs.World.{World, Reached}
+use Rattle.history.specs.Channels.{Houses, leads, on}
+use Rattle.history.specs.Messages.{ifSent, byReceive, byPark, accepted, given, AcceptedBehind, GoesIn, ComesOut}
+use Rattle.history.proofs.Tidy.{Tidy, reached-tidy}
+use Rattle.history.proofs.Turns.{here}
+
+module _ (w : World) (τ : Tidy w) (n k : ℕ) (h : Houses w n k) where
+  abbrev t : Table
+  t = w .table
+
+  -- an id that opens channel n opens mailbox k
+  opens-here : (c : CapId) (need : CapRights) → on w n c need ≡ true → openingOf t c need ≡ Opens k
+  unfolding leads opened
+  opens-here c need e = by (openingOf t c need) refl
+    where
+      by : (o : Opening) → openingOf t c need ≡ o → openingOf t c need ≡ Opens k
+      by Shut o = absurd (not-both _ e (ap (leads w n) o))
+      by (Opens j) o = o ∙ ap Opens (here w τ n k h j (opens-live t c need j (τ .sound) o) (sym (ap (leads w n) o) ∙ e))
+
+  goes-in-here : (c : CapId) (m : Message) → length (queueOf t k) < t .sizes .depth → on w n c sendRight ≡ true → accepted w n (send c m) ≡ m ∷ []
+  unfolding accepted pick ifSent
+  goes-in-here c m room e =
+      let x = after-send.send-accepts t c m (τ .sound) (record { box = k; opens = opens-here c sendRight e; below = room }) in
+      rw (e, x .answer)
+
+  -- the message that stands first is the one that is taken
+  first : {m x : Message} {rest left : List Message} → queueOf t k ≡ m ∷ rest → queueOf t k ≡ x ∷ left → x ≡ m
+  first a b = cc
+
+  -- and where one stands the queue is not empty
+  some : {A : Type 0} {m : Message} {rest : List Message} → queueOf t k ≡ m ∷ rest → queueOf t k ≡ [] → A
+  some a b = let z : _≡_ {A = ℕ} 0 1 = cc in absurd (omega arith)
+
+  module _ (m : Message) (rest : List Message) (q : queueOf t k ≡ m ∷ rest) (c : CapId) (e : on w n c receiveRight ≡ true) where
+    -- what the id opens is mailbox k
+    same : {j : ℕ} → openingOf t c receiveRight ≡ Opens j → j ≡ k
+    same o = cc (o, opens-here c receiveRight e)
+
+    shut : {A : Type 0} → openingOf t c receiveRight ≡ Shut → A
+    shut o = let o′ = opens-here c receiveRight e in let z : _≡_ {A = ℕ} 0 1 = cc in absurd (omega arith)
+
+    received : {r : Receiving} → after-recv.RecvWays t c r → byReceive (r .answer) ≡ m ∷ []
+    unfolding byReceive
+    received (after-recv.bad-cap o _) = shut o
+    received (after-recv.empty j o z _) = some q (rw (same o) at z)
+    received (after-recv.received j x o a g) = rw a (ap (λ (y : Message). y ∷ []) (first q (rw (same o) at (g .queue))))
+
+    parked : (task : TaskId) {r : Parking} → after-park.ParkWays t c task r → byPark (r .answer) ≡ m ∷ []
+    unfolding byPark
+    parked task (after-park.bad-cap o _) = shut o
+    parked task (after-park.given j x o a g) = rw a (ap (λ (y : Message). y ∷ []) (first q (rw (same o) at (g .queue))))
+    parked task (after-park.cancelled j o z _ _ _) = some q (rw (same o) at z)
+    parked task (after-park.busy j o z _ _ _) = some q (rw (same o) at (z .empty))
+    parked task (after-park.parked j o z _ _) = some q (rw (same o) at (z .empty))
+
+    comes-out-here : (given w n (receive c) ≡ m ∷ []) × ((task : TaskId) → given w n (park c task) ≡ m ∷ [])
+    unfolding given pick
+    comes-out-here = (rw e (received (after-recv.recv-ways t c (τ .sound))), λ task. rw e (parked task (after-park.park-ways t c task (τ .sound))))
+
+pub goes-in : GoesIn
+goes-in w r n k h room c m e = record { houses = h; accepts = goes-in-here w (reached-tidy r) n k h c m room e; others = refl }
+
+pub comes-out : ComesOut
+comes-out w r n k h m rest q c e = comes-out-here w (reached-tidy r) n k h m rest q c e
