@@ -1,10 +1,10 @@
 -- Messages go in where there is room, and the oldest comes out, to each id that opens the channel. Assumes nothing.
 use mathlib.Core.Path.{_≡_, refl, sym, ap, _∙_}
-use mathlib.Core.Bool.{true, false}
+use mathlib.Core.Bool.{true}
 use mathlib.Core.List.{List, [], _∷_}
 use Prim.Native.Nat.{ℕ, _<_}
 use native.Mathlib.Omega.{arith}
-use lib.Dec.{eqb}
+use borrow.Author.Tests.{eq-eqb}
 use lib.ListN.{length}
 use Rattle.laws.specs.Pick.{pick}
 use Rattle.laws.proofs.Cases.{not-both}
@@ -12,7 +12,6 @@ use Rattle.cap.specs.Rights.{sendRight, receiveRight}
 use Rattle.cap.specs.declared.CapId.{CapId}
 use Rattle.cap.specs.declared.CapRights.{CapRights}
 use Rattle.ipc.specs.Opening.{openingOf, opened}
-use Rattle.ipc.specs.Send.{sendOf}
 use Rattle.ipc.specs.Receive.{recvOf, parkOf}
 use Rattle.ipc.specs.Views.{queueOf}
 use Rattle.ipc.specs.declared.state.Message.{Message}
@@ -27,9 +26,9 @@ use Rattle.ipc.proofs.AfterSend as after-send
 use Rattle.ipc.proofs.AfterReceive as after-recv
 use Rattle.ipc.proofs.AfterPark as after-park
 use Rattle.history.specs.Calls.{receive, park, send}
-use Rattle.history.specs.World.{World, Reached}
+use Rattle.history.specs.World.{World}
 use Rattle.history.specs.Channels.{Houses, leads, on}
-use Rattle.history.specs.Messages.{ifSent, byReceive, byPark, accepted, given, AcceptedBehind, GoesIn, ComesOut}
+use Rattle.history.specs.Messages.{ifSent, byReceive, byPark, accepted, given, GoesIn, ComesOut, EachSent, SomeGives, EachReceived, EachGiven}
 use Rattle.history.proofs.Tidy.{Tidy, reached-tidy}
 use Rattle.history.proofs.Turns.{here}
 
@@ -91,3 +90,46 @@ goes-in w r n k h room c m e = record { houses = h; accepts = goes-in-here w (re
 
 pub comes-out : ComesOut
 comes-out w r n k h m rest q c e = comes-out-here w (reached-tidy r) n k h m rest q c e
+
+-- ---- by answer
+-- an id that opens a mailbox opens the channel in it
+on-its-own : (w : World) (c : CapId) (need : CapRights) (k : ℕ) → openingOf (w .table) c need ≡ Opens k → on w (w .tenant k) c need ≡ true
+unfolding leads opened
+on-its-own w c need k o = rw o (eq-eqb (w .tenant k) (w .tenant k) refl)
+
+pub each-sent : EachSent
+unfolding accepted pick ifSent
+each-sent w r c m x e =
+    let σ = reached-tidy r .sound in
+    let a = after-send.sent-room (w .table) c m σ x e in
+    let k = a .box in
+    record {
+      number = w .tenant k;
+      box = k;
+      ahead = length (queueOf (w .table) k);
+      is = record {
+        houses = record { live = opens-live (w .table) c sendRight k σ (a .opens); tenant = refl };
+        accepts = rw (on-its-own w c sendRight k (a .opens), e);
+        others = refl;
+      };
+    }
+
+pub each-received : EachReceived
+unfolding given pick byReceive
+each-received w r c m e = by (after-recv.recv-ways (w .table) c (reached-tidy r .sound))
+  where
+    by : after-recv.RecvWays (w .table) c (recvOf (w .table) c) → SomeGives w (receive c) m
+    by (after-recv.bad-cap _ q) = let z : _≡_ {A = ℕ} 0 1 = cc in absurd (omega arith)
+    by (after-recv.empty _ _ _ q) = let z : _≡_ {A = ℕ} 0 1 = cc in absurd (omega arith)
+    by (after-recv.received k _ o _ _) = record { number = w .tenant k; is = rw (on-its-own w c receiveRight k o, e) }
+
+pub each-given : EachGiven
+unfolding given pick byPark
+each-given w r c task m e = by (after-park.park-ways (w .table) c task (reached-tidy r .sound))
+  where
+    by : after-park.ParkWays (w .table) c task (parkOf (w .table) c task) → SomeGives w (park c task) m
+    by (after-park.bad-cap _ q) = let z : _≡_ {A = ℕ} 0 1 = cc in absurd (omega arith)
+    by (after-park.given k _ o _ _) = record { number = w .tenant k; is = rw (on-its-own w c receiveRight k o, e) }
+    by (after-park.cancelled _ _ _ _ _ q) = let z : _≡_ {A = ℕ} 0 1 = cc in absurd (omega arith)
+    by (after-park.busy _ _ _ _ _ q) = let z : _≡_ {A = ℕ} 0 1 = cc in absurd (omega arith)
+    by (after-park.parked _ _ _ q _) = let z : _≡_ {A = ℕ} 0 1 = cc in absurd (omega arith)

@@ -16,3 +16,4 @@ pub mod ExampleWaits
 pub mod Turns
 pub mod Messages
 pub mod Flows
+pub mod ExampleMessages

@@ -1,7 +1,7 @@
 -- Demand 3, its sentence on messages: over a run that does not revoke a channel the turns of the calls add up, and so a message that was
 -- accepted behind q others is given by the (q+1)-th call that gives, once. Assumes nothing.
 use mathlib.Core.Path.{_≡_, refl, sym, ap, _∙_}
-use mathlib.Core.Bool.{true, false}
+use mathlib.Core.Bool.{false}
 use mathlib.Core.List.{List, [], _∷_, _++_, append-nil, append-assoc}
 use Prim.Native.Nat.{ℕ, suc, _+_, _-_, _≤_, _<_}
 use native.Mathlib.Omega.{arith}
@@ -105,9 +105,9 @@ messages-in-order w r n k h cs s = in-order w (reached-tidy r) n k h s
 -- two lists that agree, cut at the same place
 cut : (a b x y : List Message) → a ++ b ≡ x ++ y → length a ≡ length x → (a ≡ x) × (b ≡ y)
 cut a b x y e l = (
-      sym (take-append-seam a b) ∙ ap (λ (i : ℕ). take i (a ++ b)) l ∙ ap (take (length x)) e ∙ take-append-seam x y,
-      sym (drop-append-seam a b) ∙ ap (λ (i : ℕ). drop i (a ++ b)) l ∙ ap (drop (length x)) e ∙ drop-append-seam x y,
-    )
+  sym (take-append-seam a b) ∙ ap (λ (i : ℕ). take i (a ++ b)) l ∙ ap (take (length x)) e ∙ take-append-seam x y,
+  sym (drop-append-seam a b) ∙ ap (λ (i : ℕ). drop i (a ++ b)) l ∙ ap (drop (length x)) e ∙ drop-append-seam x y,
+)
 
 module _ (w : World) (r : Reached w) (n k q : ℕ) (c : CapId) (m : Message) (a : AcceptedBehind w n k q c m) where
   abbrev v : World
@@ -169,17 +169,21 @@ module _ (w : World) (r : Reached w) (n k q : ℕ) (c : CapId) (m : Message) (a 
       let τ = run-grows v before v-tidy .tidy in
       let f = only-gives u n x d g in
       let p = cut (allGiven v n before) (queueOf (u .table) k) waited (m ∷ allAccepted v n before) (all-in-order before s) (e ∙ sym (a .others)) in
-      let o = turn u τ n k (in-order v v-tidy n k v-houses s .0) d (f .spares) .order in
+      let o = turn u τ n k (in-order v v-tidy n k v-houses s .0) d (f .spares) in
       let z : x ∷ queueOf (step u d .table) k ≡ m ∷ allAccepted v n before =
-      ap (λ (l : List Message). l ++ queueOf (step u d .table) k) (sym g) ∙ o ∙ ap (λ (l : List Message). queueOf (u .table) k ++ l) (f .accepts-none) ∙ append-nil _ ∙ p .1 in
+      ap (λ (l : List Message). l ++ queueOf (step u d .table) k) (sym g) ∙ o .order ∙ ap (λ (l : List Message). queueOf (u .table) k ++ l) (f .accepts-none) ∙ append-nil _ ∙ p .1 in
       let y = cut (x ∷ []) (queueOf (step u d .table) k) (m ∷ []) (allAccepted v n before) z refl in
-      record { earlier = p .0; now = cc; later = y .1 }
+      record {
+        earlier = p .0;
+        now = cc;
+        later = λ rest free. in-order (step u d) (step-grows u d τ .tidy) n k (o .houses) free .1 ∙ ap (λ (l : List Message). l ++ allAccepted (step u d) n rest) (y .1);
+      }
 
 pub given-in-turn : GivenInTurn
-given-in-turn w r n k q c m a later s l = in-turn w r n k q c m a later s l
+given-in-turn = in-turn
 
 pub waits-its-turn : WaitsItsTurn
-waits-its-turn w r n k q c m a later s l = waits w r n k q c m a later s l
+waits-its-turn = waits
 
 pub given-once : GivenOnce
-given-once w r n k q c m a before s e d x g = once w r n k q c m a before s e d x g
+given-once = once

@@ -1,6 +1,6 @@
 -- What one call does to a channel that it does not revoke: the channel stays where it lives, and what the call gives and then what
 -- waits is what waited and then what the call accepted. Assumes nothing.
-use mathlib.Core.Path.{_≡_, refl, sym, ap, _∙_, subst}
+use mathlib.Core.Path.{_≡_, refl, sym, ap, _∙_}
 use mathlib.Core.Bool.{Bool, true, false}
 use mathlib.Core.List.{List, [], _∷_, _++_, append-nil}
 use mathlib.Core.Logic.{⊎-elim}

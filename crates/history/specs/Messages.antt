@@ -8,7 +8,7 @@
 --     opens channel n, and its answer has the message x. Every other call gives `[]`, nothing.
 -- "the (q+1)-th": before it, q messages were given (`length (allGiven v n before) ≡ q`), and a call gives one or none (`OneOrNone`).
 -- "is given out unchanged": x ≡ m, the whole record.
--- "once": the q calls before gave the q others, and afterwards nothing waits but what was accepted after m (`GivenOnce`).
+-- "once": the q calls before it gave the q others, and what calls after it give was all accepted after m (`Once`).
 -- "unless the channel is revoked first": `Spares`. None of the calls revokes channel n.
 use mathlib.Core.Path.{_≡_}
 use mathlib.Core.Bool.{Bool, true, false}
@@ -24,6 +24,7 @@ use Rattle.ipc.specs.Receive.{recvOf, parkOf}
 use Rattle.ipc.specs.Views.{queueOf}
 use Rattle.ipc.specs.declared.state.Message.{Message}
 use Rattle.ipc.specs.declared.state.TaskId.{TaskId}
+use Rattle.ipc.specs.declared.state.Waiter.{Waiter}
 use Rattle.ipc.specs.declared.answers.SendAnswer as send
 use Rattle.ipc.specs.declared.answers.RecvAnswer as recv
 use Rattle.ipc.specs.declared.answers.ParkAnswer as park
@@ -151,8 +152,9 @@ pub record Once (w v : World) (n k : ℕ) (m : Message) (before : List Call) (d 
   pub earlier : allGiven v n before ≡ queueOf (w .table) k
   -- d gives m
   pub now : x ≡ m
-  -- and then there waits what was accepted after m, and nothing else
-  pub later : queueOf (step (run v before) d .table) k ≡ allAccepted v n before
+  -- what any calls after d give, and then what waits, was all accepted after m
+  pub later : let u = step (run v before) d in (rest : List Call) → Spares u n rest →
+      allGiven u n rest ++ queueOf (run u rest .table) k ≡ allAccepted v n before ++ allAccepted u n rest
 
 -- the (q+1)-th call after it that gives a message from channel n gives m, and no other does
 abbrev pub GivenOnce : Type 0
@@ -181,3 +183,25 @@ abbrev pub ComesOut : Type 0
 ComesOut =
     (w : World) → Reached w → (n k : ℕ) → Houses w n k → (m : Message) (rest : List Message) → queueOf (w .table) k ≡ m ∷ rest →
     (c : CapId) → on w n c receiveRight ≡ true → (given w n (receive c) ≡ m ∷ []) × ((task : TaskId) → given w n (park c task) ≡ m ∷ [])
+
+-- ---- no answer is left out
+-- each send that is answered Sent is accepted on a channel, behind so many others
+pub record SomeAccepts (w : World) (c : CapId) (m : Message) : Type 0 where
+  pub number : ℕ
+  pub box : ℕ
+  pub ahead : ℕ
+  pub is : AcceptedBehind w number box ahead c m
+
+abbrev pub EachSent : Type 0
+EachSent = (w : World) → Reached w → (c : CapId) (m : Message) (x : Waiter) → sendOf (w .table) c m .answer ≡ send.the-variants.Sent x → SomeAccepts w c m
+
+-- each message in an answer was given from a channel
+pub record SomeGives (w : World) (c : Call) (m : Message) : Type 0 where
+  pub number : ℕ
+  pub is : given w number c ≡ m ∷ []
+
+abbrev pub EachReceived : Type 0
+EachReceived = (w : World) → Reached w → (c : CapId) (m : Message) → recvOf (w .table) c .answer ≡ recv.the-variants.Received m → SomeGives w (receive c) m
+
+abbrev pub EachGiven : Type 0
+EachGiven = (w : World) → Reached w → (c : CapId) (task : TaskId) (m : Message) → parkOf (w .table) c task .answer ≡ park.the-variants.Given m → SomeGives w (park c task) m

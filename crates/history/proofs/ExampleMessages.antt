@@ -1,0 +1,105 @@
+-- A run in which three messages go through a channel of depth 2, computed: the premises of the theorems on messages are met, and what they
+-- say is what comes out. Assumes nothing.
+use mathlib.Core.Path.{_≡_, refl}
+use mathlib.Core.Bool.{false}
+use mathlib.Core.List.{List, [], _∷_}
+use native.Mathlib.Omega.{arith}
+use lib.ListN.{getD, length}
+use Rattle.laws.specs.Pick.{pick}
+use Rattle.laws.specs.Place.{found, lowest, lowestFree}
+use Rattle.cap.specs.Id.{idOf}
+use Rattle.cap.specs.declared.CapId.{CapId}
+use Rattle.mint.specs.Generation.{nextGeneration}
+use Rattle.ipc.specs.State.{freshMessage}
+use Rattle.ipc.specs.Make.{sizesOf}
+use Rattle.ipc.specs.Create.{createOf}
+use Rattle.ipc.specs.Send.{sendOf}
+use Rattle.ipc.specs.Receive.{recvOf, parkOf}
+use Rattle.ipc.specs.Revoke.{killed, wiped, revokeOf}
+use Rattle.ipc.specs.Opening.{openOf, openAny, openingOf, anyRightOf, opened}
+use Rattle.ipc.specs.Views.{ringFrom, queueOf}
+use Rattle.ipc.specs.declared.state.Message.{Message}
+use Rattle.ipc.specs.declared.state.TaskId.{TaskId}
+use Rattle.history.specs.Calls.{Call, create, send, receive, park, revoke, answer, after}
+use Rattle.history.specs.World.{World, but, ifCreated, onCreation, step, run, start, Reached, fresh}
+use Rattle.history.specs.Channels.{leads}
+use Rattle.history.specs.Messages.{ifSent, byReceive, byPark, accepted, given, revokes, allGiven, Spares, none, more, AcceptedBehind, Once}
+use Rattle.history.proofs.Kept.{reached-run}
+use Rattle.history.proofs.Messages.{given-in-turn, given-once}
+
+-- the two ids of the first channel
+abbrev sender : CapId
+sender = idOf 0 1
+
+abbrev receiver : CapId
+receiver = idOf 1 1
+
+abbrev one : Message
+one = record { tag = 1; a = 11; b = 12 }
+
+abbrev two : Message
+two = record { tag = 2; a = 21; b = 22 }
+
+abbrev three : Message
+three = record { tag = 3; a = 31; b = 32 }
+
+abbrev task : TaskId
+task = record { slot = 5; epoch = 6 }
+
+-- one mailbox, two endpoints, depth 2; the channel is made and message one sent
+abbrev opening : List Call
+opening = create false ∷ send sender one ∷ []
+
+abbrev begun : World
+begun = run (start (sizesOf 1 2 2)) opening
+
+-- message two is sent, and then come these
+abbrev then-on : World
+then-on = step begun (send sender two)
+
+abbrev later : List Call
+later = receive receiver ∷ send sender three ∷ park receiver task ∷ receive receiver ∷ []
+
+begun-reached : Reached begun
+begun-reached = reached-run (fresh (sizesOf 1 2 2) refl) opening
+
+two-accepted : AcceptedBehind begun 1 0 1 sender two
+unfolding run step answer after onCreation ifCreated but createOf found lowest lowestFree nextGeneration sendOf openingOf openOf opened pick accepted ifSent leads queueOf ringFrom
+two-accepted = record { houses = record { live = refl; tenant = refl }; accepts = refl; others = refl }
+
+spared : Spares then-on 1 later
+unfolding revokes
+spared = more refl (more refl (more refl (more refl none)))
+
+-- what comes out, by computation
+all-come : allGiven then-on 1 later ≡ one ∷ two ∷ three ∷ []
+unfolding run step answer after onCreation ifCreated but createOf found lowest lowestFree nextGeneration sendOf recvOf parkOf openingOf openOf opened pick allGiven given byReceive byPark leads
+all-come = refl
+
+-- and message two in its turn, by the theorems
+pub two-in-turn : getD (allGiven then-on 1 later) 1 freshMessage ≡ two
+two-in-turn = given-in-turn begun begun-reached 1 0 1 sender two two-accepted later spared (rw all-come (omega arith))
+
+-- after message one was given and message three sent, the park gives message two, and then message three waits
+abbrev meanwhile : List Call
+meanwhile = receive receiver ∷ send sender three ∷ []
+
+one-came : length (allGiven then-on 1 meanwhile) ≡ 1
+unfolding run step answer after onCreation ifCreated but createOf found lowest lowestFree nextGeneration sendOf recvOf openingOf openOf opened pick allGiven given byReceive leads
+one-came = refl
+
+park-gives : given (run then-on meanwhile) 1 (park receiver task) ≡ two ∷ []
+unfolding run step answer after onCreation ifCreated but createOf found lowest lowestFree nextGeneration sendOf recvOf parkOf openingOf openOf opened pick given byPark leads
+park-gives = refl
+
+pub two-once : Once begun then-on 1 0 two meanwhile (park receiver task) two
+unfolding revokes
+two-once = given-once begun begun-reached 1 0 1 sender two two-accepted meanwhile (more refl (more refl none)) one-came (park receiver task) two park-gives
+
+-- a revocation that comes first loses both messages: none is given and none waits
+abbrev ended : List Call
+ended = revoke receiver ∷ receive receiver ∷ []
+
+pub revoked-first : (allGiven then-on 1 ended ≡ []) × (queueOf (run then-on ended .table) 0 ≡ [])
+unfolding run step answer after onCreation ifCreated but createOf found lowest lowestFree nextGeneration sendOf recvOf revokeOf killed wiped openingOf openOf anyRightOf openAny opened pick allGiven given byReceive leads queueOf ringFrom
+revoked-first = (refl, refl)
