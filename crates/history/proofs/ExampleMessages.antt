@@ -23,7 +23,8 @@ use Rattle.ipc.specs.declared.state.TaskId.{TaskId}
 use Rattle.history.specs.Calls.{Call, create, send, receive, park, revoke, answer, after}
 use Rattle.history.specs.World.{World, but, ifCreated, onCreation, step, run, start, Reached, fresh}
 use Rattle.history.specs.Channels.{leads}
-use Rattle.history.specs.Messages.{ifSent, byReceive, byPark, accepted, given, revokes, allGiven, Spares, none, more, AcceptedBehind, Once}
+use Rattle.history.specs.Traffic.{ifSent, byReceive, byPark, accepted, given, revokes, allGiven, Spares, none, more}
+use Rattle.history.specs.Messages.{AcceptedBehind, Once}
 use Rattle.history.proofs.Kept.{reached-run}
 use Rattle.history.proofs.Messages.{given-in-turn, given-once}
 

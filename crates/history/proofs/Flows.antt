@@ -28,7 +28,8 @@ use Rattle.ipc.proofs.AfterPark as after-park
 use Rattle.history.specs.Calls.{receive, park, send}
 use Rattle.history.specs.World.{World}
 use Rattle.history.specs.Channels.{Houses, leads, on}
-use Rattle.history.specs.Messages.{ifSent, byReceive, byPark, accepted, given, GoesIn, ComesOut, EachSent, SomeGives, EachReceived, EachGiven}
+use Rattle.history.specs.Traffic.{ifSent, byReceive, byPark, accepted, given}
+use Rattle.history.specs.Messages.{GoesIn, ComesOut, EachSent, SomeGives, EachReceived, EachGiven}
 use Rattle.history.proofs.Tidy.{Tidy, reached-tidy}
 use Rattle.history.proofs.Turns.{here}
 

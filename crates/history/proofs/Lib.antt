@@ -14,6 +14,7 @@ pub mod WaitsCalls
 pub mod Waits
 pub mod ExampleWaits
 pub mod Turns
+pub mod Givings
 pub mod Messages
 pub mod Flows
 pub mod ExampleMessages

@@ -1,86 +1,23 @@
 -- Demand 3, its sentence on messages: over a run that does not revoke a channel the turns of the calls add up, and so a message that was
 -- accepted behind q others is given by the (q+1)-th call that gives, once. Assumes nothing.
 use mathlib.Core.Path.{_≡_, refl, sym, ap, _∙_}
-use mathlib.Core.Bool.{false}
 use mathlib.Core.List.{List, [], _∷_, _++_, append-nil, append-assoc}
 use Prim.Native.Nat.{ℕ, suc, _+_, _-_, _≤_, _<_}
 use native.Mathlib.Omega.{arith}
 use lib.ListN.{getD, length, take, drop, length-append, List·getD-append}
 use lib.Seq.{getD-append-seam, getD-append-add, take-append-seam, drop-append-seam}
-use Rattle.laws.proofs.Cases.{all-pick}
-use Rattle.cap.specs.Rights.{receiveRight}
 use Rattle.cap.specs.declared.CapId.{CapId}
 use Rattle.ipc.specs.State.{freshMessage}
 use Rattle.ipc.specs.Views.{queueOf}
 use Rattle.ipc.specs.declared.state.Message.{Message}
-use Rattle.ipc.specs.declared.answers.RecvAnswer as recv
-use Rattle.ipc.specs.declared.answers.ParkAnswer as park
-use Rattle.history.specs.Calls.{Call, create, send, receive, park, queued, revoke, register, release, holders, clear, noteAuthority, noteState, counts}
+use Rattle.history.specs.Calls.{Call, send}
 use Rattle.history.specs.World.{World, step, run, Reached}
-use Rattle.history.specs.Channels.{Houses, on}
-use Rattle.history.specs.Messages.{byReceive, byPark, accepted, given, revokes, allAccepted, allGiven, Spares, none, more, OneOrNone, InOrder, AcceptedBehind, GivenInTurn, Once, GivenOnce, WaitsItsTurn}
+use Rattle.history.specs.Channels.{Houses}
+use Rattle.history.specs.Traffic.{accepted, given, revokes, allAccepted, allGiven, Spares, none, more}
+use Rattle.history.specs.Messages.{AcceptedBehind, Once, GivenOnce, GivenInTurn, InOrder, WaitsItsTurn}
 use Rattle.history.proofs.Tidy.{Tidy, step-grows, run-grows, reached-tidy}
 use Rattle.history.proofs.Turns.{turn}
-
--- ---- a call gives one message or none
-abbrev Few : List Message → Type 0
-Few l = length l ≤ 1
-
-few-received : (a : recv.RecvAnswer) → Few (byReceive a)
-unfolding byReceive
-few-received (recv.the-variants.Received m) = omega arith
-few-received recv.the-variants.BadCap = omega arith
-few-received recv.the-variants.Empty = omega arith
-few-received recv.the-variants.BadTable = omega arith
-
-few-parked : (a : park.ParkAnswer) → Few (byPark a)
-unfolding byPark
-few-parked (park.the-variants.Given m) = omega arith
-few-parked park.the-variants.Parked = omega arith
-few-parked park.the-variants.BadCap = omega arith
-few-parked park.the-variants.Busy = omega arith
-few-parked park.the-variants.Cancelled = omega arith
-few-parked park.the-variants.BadTable = omega arith
-
-pub one-or-none : OneOrNone
-unfolding given
-one-or-none w n (create b) = omega arith
-one-or-none w n (send c m) = omega arith
-one-or-none w n (receive c) = all-pick Few (on w n c receiveRight) _ _ (λ _. few-received _) (λ _. omega arith)
-one-or-none w n (park c task) = all-pick Few (on w n c receiveRight) _ _ (λ _. few-parked _) (λ _. omega arith)
-one-or-none w n (queued c) = omega arith
-one-or-none w n (revoke c) = omega arith
-one-or-none w n (register words) = omega arith
-one-or-none w n (release x y z v) = omega arith
-one-or-none w n (holders c) = omega arith
-one-or-none w n (clear task) = omega arith
-one-or-none w n noteAuthority = omega arith
-one-or-none w n noteState = omega arith
-one-or-none w n counts = omega arith
-
--- a call that gives a message accepts none and revokes nothing
-record OnlyGives (w : World) (n : ℕ) (c : Call) : Type 0 where
-  pub accepts-none : accepted w n c ≡ []
-  pub spares : revokes w n c ≡ false
-
-nothing : {A : Type 0} {x : Message} → [] ≡ x ∷ [] → A
-nothing e = let l : _≡_ {A = ℕ} 0 1 = ap length e in absurd (omega arith)
-
-only-gives : (w : World) (n : ℕ) (x : Message) (c : Call) → given w n c ≡ x ∷ [] → OnlyGives w n c
-unfolding given accepted revokes
-only-gives w n x (create b) g = nothing g
-only-gives w n x (send c m) g = nothing g
-only-gives w n x (receive c) g = record { accepts-none = refl; spares = refl }
-only-gives w n x (park c task) g = record { accepts-none = refl; spares = refl }
-only-gives w n x (queued c) g = nothing g
-only-gives w n x (revoke c) g = nothing g
-only-gives w n x (register words) g = nothing g
-only-gives w n x (release _ _ _ _) g = nothing g
-only-gives w n x (holders c) g = nothing g
-only-gives w n x (clear task) g = nothing g
-only-gives w n x noteAuthority g = nothing g
-only-gives w n x noteState g = nothing g
-only-gives w n x counts g = nothing g
+use Rattle.history.proofs.Givings.{only-gives}
 
 -- ---- over a run
 in-order : (w : World) → Tidy w → (n k : ℕ) → Houses w n k → {cs : List Call} → Spares w n cs →

@@ -38,7 +38,7 @@ use Rattle.ipc.proofs.AfterCreate.{create-others}
 use Rattle.history.specs.Calls.{Call, create, send, receive, park, queued, revoke, register, release, holders, clear, noteAuthority, noteState, counts, fourSlots, answer, after}
 use Rattle.history.specs.World.{World, onCreation, settled, step}
 use Rattle.history.specs.Channels.{Houses, leads, on}
-use Rattle.history.specs.Messages.{ifSent, byReceive, byPark, accepted, given, revokes}
+use Rattle.history.specs.Traffic.{ifSent, byReceive, byPark, accepted, given, revokes}
 use Rattle.history.proofs.Kept.{step-table}
 use Rattle.history.proofs.Steps.{StepWays, settles, births, step-ways}
 use Rattle.history.proofs.Tidy.{Tidy}

@@ -6,4 +6,5 @@ pub mod Ids
 pub mod Refusals
 pub mod Public
 pub mod Waits
+pub mod Traffic
 pub mod Messages
