@@ -4,14 +4,12 @@ use mathlib.Core.Bool.{true}
 use mathlib.Core.List.{List, [], _∷_}
 use Prim.Native.Nat.{ℕ, _<_}
 use native.Mathlib.Omega.{arith}
-use borrow.Author.Tests.{eq-eqb}
 use lib.ListN.{length}
 use Rattle.laws.specs.Pick.{pick}
-use Rattle.laws.proofs.Cases.{not-both}
 use Rattle.cap.specs.Rights.{sendRight, receiveRight}
 use Rattle.cap.specs.declared.CapId.{CapId}
 use Rattle.cap.specs.declared.CapRights.{CapRights}
-use Rattle.ipc.specs.Opening.{openingOf, opened}
+use Rattle.ipc.specs.Opening.{openingOf}
 use Rattle.ipc.specs.Receive.{recvOf, parkOf}
 use Rattle.ipc.specs.Views.{queueOf}
 use Rattle.ipc.specs.declared.state.Message.{Message}
@@ -19,7 +17,6 @@ use Rattle.ipc.specs.declared.state.TaskId.{TaskId}
 use Rattle.ipc.specs.declared.state.Table.{Table}
 use Rattle.ipc.specs.declared.answers.Receiving.{Receiving}
 use Rattle.ipc.specs.declared.answers.Parking.{Parking}
-use Rattle.ipc.specs.declared.opening.Opening.{Opening}
 use Rattle.ipc.specs.declared.opening.Opening.the-variants.{Opens, Shut}
 use Rattle.ipc.proofs.Openings.{opens-live}
 use Rattle.ipc.proofs.AfterSend as after-send
@@ -27,11 +24,11 @@ use Rattle.ipc.proofs.AfterReceive as after-recv
 use Rattle.ipc.proofs.AfterPark as after-park
 use Rattle.history.specs.Calls.{receive, park, send}
 use Rattle.history.specs.World.{World}
-use Rattle.history.specs.Channels.{Houses, leads, on}
+use Rattle.history.specs.Channels.{Houses, on}
 use Rattle.history.specs.Traffic.{ifSent, byReceive, byPark, accepted, given}
 use Rattle.history.specs.Messages.{GoesIn, ComesOut, EachSent, SomeGives, EachReceived, EachGiven}
 use Rattle.history.proofs.Tidy.{Tidy, reached-tidy}
-use Rattle.history.proofs.Turns.{here}
+use Rattle.history.proofs.Leading.{leads-to, leads-own}
 
 module _ (w : World) (τ : Tidy w) (n k : ℕ) (h : Houses w n k) where
   abbrev t : Table
@@ -39,12 +36,9 @@ module _ (w : World) (τ : Tidy w) (n k : ℕ) (h : Houses w n k) where
 
   -- an id that opens channel n opens mailbox k
   opens-here : (c : CapId) (need : CapRights) → on w n c need ≡ true → openingOf t c need ≡ Opens k
-  unfolding leads opened
-  opens-here c need e = by (openingOf t c need) refl
-    where
-      by : (o : Opening) → openingOf t c need ≡ o → openingOf t c need ≡ Opens k
-      by Shut o = absurd (not-both _ e (ap (leads w n) o))
-      by (Opens j) o = o ∙ ap Opens (here w τ n k h j (opens-live t c need j (τ .sound) o) (sym (ap (leads w n) o) ∙ e))
+  opens-here c need e =
+      let a = leads-to w n (openingOf t c need) e in
+      a .opens ∙ ap Opens (τ .single (a .box) k (opens-live t c need (a .box) (τ .sound) (a .opens)) (h .live) (a .tenant ∙ sym (h .tenant)))
 
   goes-in-here : (c : CapId) (m : Message) → length (queueOf t k) < t .sizes .depth → on w n c sendRight ≡ true → accepted w n (send c m) ≡ m ∷ []
   unfolding accepted pick ifSent
@@ -93,11 +87,6 @@ pub comes-out : ComesOut
 comes-out w r n k h m rest q c e = comes-out-here w (reached-tidy r) n k h m rest q c e
 
 -- ---- by answer
--- an id that opens a mailbox opens the channel in it
-on-its-own : (w : World) (c : CapId) (need : CapRights) (k : ℕ) → openingOf (w .table) c need ≡ Opens k → on w (w .tenant k) c need ≡ true
-unfolding leads opened
-on-its-own w c need k o = rw o (eq-eqb (w .tenant k) (w .tenant k) refl)
-
 pub each-sent : EachSent
 unfolding accepted pick ifSent
 each-sent w r c m x e =
@@ -110,7 +99,7 @@ each-sent w r c m x e =
       ahead = length (queueOf (w .table) k);
       is = record {
         houses = record { live = opens-live (w .table) c sendRight k σ (a .opens); tenant = refl };
-        accepts = rw (on-its-own w c sendRight k (a .opens), e);
+        accepts = rw (leads-own w k (openingOf (w .table) c sendRight) (a .opens), e);
         others = refl;
       };
     }
@@ -122,7 +111,7 @@ each-received w r c m e = by (after-recv.recv-ways (w .table) c (reached-tidy r 
     by : after-recv.RecvWays (w .table) c (recvOf (w .table) c) → SomeGives w (receive c) m
     by (after-recv.bad-cap _ q) = let z : _≡_ {A = ℕ} 0 1 = cc in absurd (omega arith)
     by (after-recv.empty _ _ _ q) = let z : _≡_ {A = ℕ} 0 1 = cc in absurd (omega arith)
-    by (after-recv.received k _ o _ _) = record { number = w .tenant k; is = rw (on-its-own w c receiveRight k o, e) }
+    by (after-recv.received k _ o _ _) = record { number = w .tenant k; is = rw (leads-own w k (openingOf (w .table) c receiveRight) o, e) }
 
 pub each-given : EachGiven
 unfolding given pick byPark
@@ -130,7 +119,7 @@ each-given w r c task m e = by (after-park.park-ways (w .table) c task (reached-
   where
     by : after-park.ParkWays (w .table) c task (parkOf (w .table) c task) → SomeGives w (park c task) m
     by (after-park.bad-cap _ q) = let z : _≡_ {A = ℕ} 0 1 = cc in absurd (omega arith)
-    by (after-park.given k _ o _ _) = record { number = w .tenant k; is = rw (on-its-own w c receiveRight k o, e) }
+    by (after-park.given k _ o _ _) = record { number = w .tenant k; is = rw (leads-own w k (openingOf (w .table) c receiveRight) o, e) }
     by (after-park.cancelled _ _ _ _ _ q) = let z : _≡_ {A = ℕ} 0 1 = cc in absurd (omega arith)
     by (after-park.busy _ _ _ _ _ q) = let z : _≡_ {A = ℕ} 0 1 = cc in absurd (omega arith)
     by (after-park.parked _ _ _ q _) = let z : _≡_ {A = ℕ} 0 1 = cc in absurd (omega arith)

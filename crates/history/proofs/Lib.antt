@@ -13,8 +13,10 @@ pub mod WaitsTurn
 pub mod WaitsCalls
 pub mod Waits
 pub mod ExampleWaits
+pub mod Leading
 pub mod Turns
 pub mod Givings
 pub mod Messages
+pub mod Gone
 pub mod Flows
 pub mod ExampleMessages

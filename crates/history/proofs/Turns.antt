@@ -55,7 +55,7 @@ module _ (w : World) (τ : Tidy w) (n k : ℕ) (h : Houses w n k) where
   t = w .table
 
   -- channel n lives in mailbox k and in no other
-  pub here : (j : ℕ) → mailboxLive t j ≡ true → eqb (w .tenant j) n ≡ true → j ≡ k
+  here : (j : ℕ) → mailboxLive t j ≡ true → eqb (w .tenant j) n ≡ true → j ≡ k
   here j l e = τ .single j k l (h .live) (eqb-true _ _ e ∙ sym (h .tenant))
 
   elsewhere : (j : ℕ) → eqb (w .tenant j) n ≡ false → k ≡ j → ⊥

@@ -1,0 +1,139 @@
+-- A channel that lives no more does not come back, and nothing goes in or comes out of it. Assumes nothing.
+use mathlib.Core.Path.{_≡_, refl, sym, ap, _∙_}
+use mathlib.Core.Bool.{true, false}
+use mathlib.Core.List.{List, [], _∷_}
+use mathlib.Core.Logic.{⊎-elim}
+use Prim.Native.Nat.{ℕ, _≤_}
+use native.Mathlib.Omega.{arith}
+use Rattle.laws.specs.Pick.{pick}
+use Rattle.laws.proofs.Bools.{either, same?}
+use Rattle.laws.proofs.Cases.{not-both}
+use Rattle.cap.specs.Rights.{sendRight, receiveRight}
+use Rattle.cap.specs.declared.CapId.{CapId}
+use Rattle.cap.specs.declared.CapRights.{CapRights}
+use Rattle.ipc.specs.State.{mailboxLive}
+use Rattle.ipc.specs.Opening.{openingOf, anyRightOf}
+use Rattle.ipc.specs.declared.state.Table.{Table}
+use Rattle.ipc.specs.declared.answers.Revoking.{Revoking}
+use Rattle.ipc.proofs.Openings.{opens-live}
+use Rattle.ipc.proofs.AfterRevoke as after-revoke
+use Rattle.history.specs.Calls.{Call, create, send, receive, park, queued, revoke, register, release, holders, clear, noteAuthority, noteState, counts, answer, after}
+use Rattle.history.specs.World.{World, onCreation, settled, step}
+use Rattle.history.specs.Channels.{Houses, leads, on}
+use Rattle.history.specs.Traffic.{accepted, given, revokes, allAccepted, allGiven}
+use Rattle.history.specs.Messages.{NothingMore}
+use Rattle.history.proofs.Kept.{after-sound}
+use Rattle.history.proofs.Shrinks.{lived}
+use Rattle.history.proofs.Steps.{StepWays, settles, births, step-ways}
+use Rattle.history.proofs.Tidy.{Tidy, step-grows, reached-tidy}
+use Rattle.history.proofs.Leading.{leads-to}
+
+-- channel n was made, and lives nowhere
+pub record Gone (w : World) (n : ℕ) : Type 0 where
+  pub made : n ≤ w .made
+  pub nowhere : (k : ℕ) → Houses w n k → ⊥
+
+-- ---- it does not come back
+pub gone-step : (w : World) (n : ℕ) (c : Call) → Tidy w → Gone w n → Gone (step w c) n
+gone-step w n c τ g = by (step-ways w c (τ .sound))
+  where
+    by : {v : World} → StepWays w c v → Gone v n
+    by (settles h q) =
+        rw q
+        (record {
+          made = g .made;
+          nowhere = λ k a. g .nowhere k (record { live = lived (w .table) (after (w .table) c) (τ .sound) (after-sound (w .table) c (τ .sound)) h k (a .live); tenant = a .tenant });
+        })
+    by {v} (births b j s r _ β) =
+        record {
+          made = let p = β .made in let q = g .made in omega arith;
+          nowhere = λ k a. ⊎-elim (λ e. let p = β .tenant in let q = g .made in let t : v .tenant j ≡ n = ap (v .tenant) (sym e) ∙ a .tenant in omega arith)
+              (λ ne. g .nowhere k (record { live = sym (β .makes .others k ne .live) ∙ ap (λ (t : Table). mailboxLive t k) (sym (β .table)) ∙ a .live; tenant = sym (β .others k ne) ∙ a .tenant })) (same? k j);
+        }
+
+-- ---- nothing goes in or comes out
+module _ (w : World) (n : ℕ) (τ : Tidy w) (g : Gone w n) where
+  not-on : (c : CapId) (need : CapRights) → on w n c need ≡ false
+  not-on c need = ⊎-elim (λ e. absurd (led e)) (λ e. e) (either (on w n c need))
+    where
+      led : on w n c need ≡ true → ⊥
+      led e = let a = leads-to w n (openingOf (w .table) c need) e in g .nowhere (a .box) (record { live = opens-live (w .table) c need (a .box) (τ .sound) (a .opens); tenant = a .tenant })
+
+  none-accepted : (c : Call) → accepted w n c ≡ []
+  unfolding accepted pick
+  none-accepted (create b) = refl
+  none-accepted (send c m) = rw (not-on c sendRight)
+  none-accepted (receive c) = refl
+  none-accepted (park c task) = refl
+  none-accepted (queued c) = refl
+  none-accepted (revoke c) = refl
+  none-accepted (register words) = refl
+  none-accepted (release _ _ _ _) = refl
+  none-accepted (holders c) = refl
+  none-accepted (clear task) = refl
+  none-accepted noteAuthority = refl
+  none-accepted noteState = refl
+  none-accepted counts = refl
+
+  none-given : (c : Call) → given w n c ≡ []
+  unfolding given pick
+  none-given (create b) = refl
+  none-given (send c m) = refl
+  none-given (receive c) = rw (not-on c receiveRight)
+  none-given (park c task) = rw (not-on c receiveRight)
+  none-given (queued c) = refl
+  none-given (revoke c) = refl
+  none-given (register words) = refl
+  none-given (release _ _ _ _) = refl
+  none-given (holders c) = refl
+  none-given (clear task) = refl
+  none-given noteAuthority = refl
+  none-given noteState = refl
+  none-given counts = refl
+
+nothing-more-in : (w : World) (n : ℕ) (cs : List Call) → Tidy w → Gone w n → (allAccepted w n cs ≡ []) × (allGiven w n cs ≡ [])
+unfolding allAccepted allGiven
+nothing-more-in w n [] τ g = (refl, refl)
+nothing-more-in w n (c ∷ cs) τ g =
+    let r = nothing-more-in (step w c) n cs (step-grows w c τ .tidy) (gone-step w n c τ g) in
+    (rw (none-accepted w n τ g c, r .0), rw (none-given w n τ g c, r .1))
+
+-- ---- a revocation
+module _ (w : World) (n : ℕ) (τ : Tidy w) where
+  abbrev t : Table
+  t = w .table
+
+  ended : (c : CapId) {r : Revoking} → leads w n (anyRightOf t c) ≡ true → after-revoke.RevokeWays t c r → Gone (settled w (r .table)) n
+  ended c e (after-revoke.bad-cap o _) = let a = leads-to w n (anyRightOf t c) e .opens in let z : _≡_ {A = ℕ} 0 1 = cc in absurd (omega arith)
+  ended c {r} e (after-revoke.revoked j o l _ x) =
+      let a = leads-to w n (anyRightOf t c) e in
+      let i : a .box ≡ j = cc (a .opens, o) in
+      let here : w .tenant j ≡ n = ap (w .tenant) (sym i) ∙ a .tenant in
+      record {
+        made = let p = τ .last j l in omega arith;
+        nowhere = λ k h.
+            let other : k ≡ j → ⊥ = λ q. not-both _ (h .live) (ap (mailboxLive (r .table)) q ∙ x .live) in
+            other (τ .single k j (sym (x .others k other .live) ∙ h .live) l (h .tenant ∙ sym here));
+      }
+
+  no-revocation : {A : Type 0} → false ≡ true → A
+  no-revocation e = absurd (not-both false e refl)
+
+  revoked-gone : (c : Call) → revokes w n c ≡ true → Gone (step w c) n
+  unfolding revokes step answer after onCreation
+  revoked-gone (create b) e = no-revocation e
+  revoked-gone (send c m) e = no-revocation e
+  revoked-gone (receive c) e = no-revocation e
+  revoked-gone (park c task) e = no-revocation e
+  revoked-gone (queued c) e = no-revocation e
+  revoked-gone (revoke c) e = ended c e (after-revoke.revoke-ways t c (τ .sound))
+  revoked-gone (register words) e = no-revocation e
+  revoked-gone (release _ _ _ _) e = no-revocation e
+  revoked-gone (holders c) e = no-revocation e
+  revoked-gone (clear task) e = no-revocation e
+  revoked-gone noteAuthority e = no-revocation e
+  revoked-gone noteState e = no-revocation e
+  revoked-gone counts e = no-revocation e
+
+pub nothing-more : NothingMore
+nothing-more w r n c e later = nothing-more-in (step w c) n later (step-grows w c (reached-tidy r) .tidy) (revoked-gone w n (reached-tidy r) c e)
