@@ -1,4 +1,4 @@
--- A channel that lives no more does not come back, and nothing goes in or comes out of it. Assumes nothing.
+-- A revoked channel: nothing goes in and nothing comes out. Assumes nothing.
 use mathlib.Core.Path.{_≡_, refl, sym, ap, _∙_}
 use mathlib.Core.Bool.{true, false}
 use mathlib.Core.List.{List, [], _∷_}
@@ -6,7 +6,7 @@ use mathlib.Core.Logic.{⊎-elim}
 use Prim.Native.Nat.{ℕ, _≤_}
 use native.Mathlib.Omega.{arith}
 use Rattle.laws.specs.Pick.{pick}
-use Rattle.laws.proofs.Bools.{either, same?}
+use Rattle.laws.proofs.Bools.{either}
 use Rattle.laws.proofs.Cases.{not-both}
 use Rattle.cap.specs.Rights.{sendRight, receiveRight}
 use Rattle.cap.specs.declared.CapId.{CapId}
@@ -19,45 +19,20 @@ use Rattle.ipc.proofs.Openings.{opens-live}
 use Rattle.ipc.proofs.AfterRevoke as after-revoke
 use Rattle.history.specs.Calls.{Call, create, send, receive, park, queued, revoke, register, release, holders, clear, noteAuthority, noteState, counts, answer, after}
 use Rattle.history.specs.World.{World, onCreation, settled, step}
-use Rattle.history.specs.Channels.{Houses, leads, on}
+use Rattle.history.specs.Channels.{leads, on}
 use Rattle.history.specs.Traffic.{accepted, given, revokes, allAccepted, allGiven}
 use Rattle.history.specs.Messages.{NothingMore}
-use Rattle.history.proofs.Kept.{after-sound}
-use Rattle.history.proofs.Shrinks.{lived}
-use Rattle.history.proofs.Steps.{StepWays, settles, births, step-ways}
 use Rattle.history.proofs.Tidy.{Tidy, step-grows, reached-tidy}
+use Rattle.history.proofs.Lives.{Gone, step-lived}
 use Rattle.history.proofs.Leading.{leads-to}
 
--- channel n was made, and lives nowhere
-pub record Gone (w : World) (n : ℕ) : Type 0 where
-  pub made : n ≤ w .made
-  pub nowhere : (k : ℕ) → Houses w n k → ⊥
-
--- ---- it does not come back
-pub gone-step : (w : World) (n : ℕ) (c : Call) → Tidy w → Gone w n → Gone (step w c) n
-gone-step w n c τ g = by (step-ways w c (τ .sound))
-  where
-    by : {v : World} → StepWays w c v → Gone v n
-    by (settles h q) =
-        rw q
-        (record {
-          made = g .made;
-          nowhere = λ k a. g .nowhere k (record { live = lived (w .table) (after (w .table) c) (τ .sound) (after-sound (w .table) c (τ .sound)) h k (a .live); tenant = a .tenant });
-        })
-    by {v} (births b j s r _ β) =
-        record {
-          made = let p = β .made in let q = g .made in omega arith;
-          nowhere = λ k a. ⊎-elim (λ e. let p = β .tenant in let q = g .made in let t : v .tenant j ≡ n = ap (v .tenant) (sym e) ∙ a .tenant in omega arith)
-              (λ ne. g .nowhere k (record { live = sym (β .makes .others k ne .live) ∙ ap (λ (t : Table). mailboxLive t k) (sym (β .table)) ∙ a .live; tenant = sym (β .others k ne) ∙ a .tenant })) (same? k j);
-        }
-
 -- ---- nothing goes in or comes out
-module _ (w : World) (n : ℕ) (τ : Tidy w) (g : Gone w n) where
+module _ (w : World) (n : ℕ) (τ : Tidy w) (gone : Gone w n) where
   not-on : (c : CapId) (need : CapRights) → on w n c need ≡ false
   not-on c need = ⊎-elim (λ e. absurd (led e)) (λ e. e) (either (on w n c need))
     where
       led : on w n c need ≡ true → ⊥
-      led e = let a = leads-to w n (openingOf (w .table) c need) e in g .nowhere (a .box) (record { live = opens-live (w .table) c need (a .box) (τ .sound) (a .opens); tenant = a .tenant })
+      led e = let a = leads-to w n (openingOf (w .table) c need) e in gone (a .box) (record { live = opens-live (w .table) c need (a .box) (τ .sound) (a .opens); tenant = a .tenant })
 
   none-accepted : (c : Call) → accepted w n c ≡ []
   unfolding accepted pick
@@ -91,27 +66,35 @@ module _ (w : World) (n : ℕ) (τ : Tidy w) (g : Gone w n) where
   none-given noteState = refl
   none-given counts = refl
 
-nothing-more-in : (w : World) (n : ℕ) (cs : List Call) → Tidy w → Gone w n → (allAccepted w n cs ≡ []) × (allGiven w n cs ≡ [])
+nothing-more-in : (w : World) (n : ℕ) (cs : List Call) → Tidy w → n ≤ w .made → Gone w n → (allAccepted w n cs ≡ []) × (allGiven w n cs ≡ [])
 unfolding allAccepted allGiven
-nothing-more-in w n [] τ g = (refl, refl)
-nothing-more-in w n (c ∷ cs) τ g =
-    let r = nothing-more-in (step w c) n cs (step-grows w c τ .tidy) (gone-step w n c τ g) in
-    (rw (none-accepted w n τ g c, r .0), rw (none-given w n τ g c, r .1))
+nothing-more-in w n [] τ past gone = (refl, refl)
+nothing-more-in w n (c ∷ cs) τ past gone =
+    let a = step-grows w c τ in
+    let m = a .more in
+    let r = nothing-more-in (step w c) n cs (a .tidy) (omega arith) (λ k x. gone k (step-lived w c n k τ past x .house)) in
+    (rw (none-accepted w n τ gone c, r .0), rw (none-given w n τ gone c, r .1))
 
 -- ---- a revocation
 module _ (w : World) (n : ℕ) (τ : Tidy w) where
+  -- v is a world in which channel n, made before, lives nowhere
+  record Ends (v : World) : Type 0 where
+    pub past : n ≤ w .made
+    pub gone : Gone v n
+
   abbrev t : Table
   t = w .table
 
-  ended : (c : CapId) {r : Revoking} → leads w n (anyRightOf t c) ≡ true → after-revoke.RevokeWays t c r → Gone (settled w (r .table)) n
+  -- the mailbox that it opens is the one where n lives, and dies
+  ended : (c : CapId) {r : Revoking} → leads w n (anyRightOf t c) ≡ true → after-revoke.RevokeWays t c r → Ends (settled w (r .table))
   ended c e (after-revoke.bad-cap o _) = let a = leads-to w n (anyRightOf t c) e .opens in let z : _≡_ {A = ℕ} 0 1 = cc in absurd (omega arith)
   ended c {r} e (after-revoke.revoked j o l _ x) =
       let a = leads-to w n (anyRightOf t c) e in
       let i : a .box ≡ j = cc (a .opens, o) in
       let here : w .tenant j ≡ n = ap (w .tenant) (sym i) ∙ a .tenant in
       record {
-        made = let p = τ .last j l in omega arith;
-        nowhere = λ k h.
+        past = let p = τ .last j l in omega arith;
+        gone = λ k h.
             let other : k ≡ j → ⊥ = λ q. not-both _ (h .live) (ap (mailboxLive (r .table)) q ∙ x .live) in
             other (τ .single k j (sym (x .others k other .live) ∙ h .live) l (h .tenant ∙ sym here));
       }
@@ -119,7 +102,7 @@ module _ (w : World) (n : ℕ) (τ : Tidy w) where
   no-revocation : {A : Type 0} → false ≡ true → A
   no-revocation e = absurd (not-both false e refl)
 
-  revoked-gone : (c : Call) → revokes w n c ≡ true → Gone (step w c) n
+  revoked-gone : (c : Call) → revokes w n c ≡ true → Ends (step w c)
   unfolding revokes step answer after onCreation
   revoked-gone (create b) e = no-revocation e
   revoked-gone (send c m) e = no-revocation e
@@ -136,4 +119,10 @@ module _ (w : World) (n : ℕ) (τ : Tidy w) where
   revoked-gone counts e = no-revocation e
 
 pub nothing-more : NothingMore
-nothing-more w r n c e later = nothing-more-in (step w c) n later (step-grows w c (reached-tidy r) .tidy) (revoked-gone w n (reached-tidy r) c e)
+nothing-more w r n c e later =
+    let τ = reached-tidy r in
+    let a = step-grows w c τ in
+    let g = revoked-gone w n τ c e in
+    let p = g .past in
+    let m = a .more in
+    nothing-more-in (step w c) n later (a .tidy) (omega arith) (g .gone)

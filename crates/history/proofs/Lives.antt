@@ -30,11 +30,11 @@ use Rattle.history.proofs.Ids.{Issued, issued, issued-on, opens-only, i
 
 -- ---- a step, and a channel that was made before it
 -- where the channel lives after the step, it lived before, and what opened it opens it still
-record Lived (w v : World) (n k : ℕ) : Type 0 where
-  house : Houses w n k
-  still : (c : CapId) (need : CapRights) → openingOf (w .table) c need ≡ Opens k → openingOf (v .table) c need ≡ Opens k
+pub record Lived (w v : World) (n k : ℕ) : Type 0 where
+  pub house : Houses w n k
+  pub still : (c : CapId) (need : CapRights) → openingOf (w .table) c need ≡ Opens k → openingOf (v .table) c need ≡ Opens k
 
-step-lived : (w : World) (call : Call) (n k : ℕ) → Tidy w → n ≤ w .made → Houses (step w call) n k → Lived w (step w call) n k
+pub step-lived : (w : World) (call : Call) (n k : ℕ) → Tidy w → n ≤ w .made → Houses (step w call) n k → Lived w (step w call) n k
 step-lived w call n k τ past = by (step-ways w call (τ .sound))
   where
     was : (h : Shrinks (w .table) (after (w .table) call)) → Houses (settled w (after (w .table) call)) n k → Lived w (settled w (after (w .table) call)) n k
@@ -79,7 +79,7 @@ ids-stay w reached b n ids m later k x =
 
 -- ---- once it does not
 -- channel n lives nowhere
-abbrev Gone : World → ℕ → Type 0
+abbrev pub Gone : World → ℕ → Type 0
 Gone v n = (k : ℕ) → Houses v n k → ⊥
 
 run-gone : (w : World) (cs : List Call) (n : ℕ) → Tidy w → n ≤ w .made → Gone w n → Gone (run w cs) n
