@@ -150,7 +150,7 @@ module _ (log : List ℕ) (p : Place) (h : Placed log p) (out : List ℕ) where
         let z : length rest - length rest ≡ 0 = omega arith in
         let o : p .offset + (length rest - length rest) ≡ p .offset = omega arith in
         let x : textFrom (length rest) rest (p .offset + (length rest - length rest)) (p .done) (p .tables) ≡ textAt log p =
-            rw o (enough (length rest) (length log) rest (p .offset) (p .done) (p .tables) (omega arith) (omega arith) ∙ sym (short-text p)) in
+        rw o (enough (length rest) (length log) rest (p .offset) (p .done) (p .tables) (omega arith) (omega arith) ∙ sym (short-text p)) in
         rw (← x) (run-prints rest (p .offset) (length rest) rest (p .done) out 0 (p .tables) (omega arith) (omega arith) (rw z refl) (omega arith))
 
     reaches : Placed log (placeOf (p .offset) (e .answer))
@@ -186,7 +186,7 @@ module _ (log : List ℕ) (p : Place) (h : Placed log p) (out : List ℕ) where
     closed n =
         let c = closes (e .buffer) (e .answer .at) (stepNumber (e .answer .answer)) (p .offset + e .answer .offset) (placeOf (p .offset) (e .answer)) (ran .within) in
         let x : take (e .answer .at) (e .buffer) ++ lastLine (stepNumber (e .answer .answer)) (p .offset + e .answer .offset) (e .answer .done) ≡ textAt log p =
-            rw (ne-eqb (stepNumber (e .answer .answer)) no.noRoom n) at (ran .says) in
+        rw (ne-eqb (stepNumber (e .answer .answer)) no.noRoom n) at (ran .says) in
         record {
           took = λ z. c .took z ∙ x;
           left = λ z. rw (c .place) (ap (λ (y : List ℕ). y ++ textAt log (placeOf (p .offset) (e .answer))) (c .left z) ∙ ap (λ (y : List ℕ). take (e .answer .at) (e .buffer) ++ y) left-text ∙ ran .says);

@@ -1,61 +1,80 @@
+-- `player::print` meets its contract. Assumes nothing.
+use borrow.Author.Needs.{needs}
+use Rattle.oplog.specs.Step.{stepNumber}
+use lib.Dec.{eqb}
+use lib.Seq.{length-take-le}
+use mathlib.Core.Path.{_≡_, refl, sym, ap, _∙_}
+use mathlib.Core.Bool.{Bool, true, _&&_}
+use mathlib.Core.List.{List}
+use Prim.Native.Nat.{ℕ, suc, _-_, _<_, _≤_}
+use native.Mathlib.Omega.{arith}
+use lib.Dec.{ltb}
+use lib.ListN.{length}
+use borrow.Author.Tests.{ltb-true}
+use Rattle.laws.specs.Pick.{pick}
+use Rattle.laws.proofs.Cases.{all-pick}
+use Rattle.laws.proofs.Every.{and-right}
+use Rattle.oplog.proofs.Printed.{part-inside}
+use Rattle.oplog.specs.Replay.{replayOf}
+use Rattle.oplog.specs.declared.replay.Place.{Place}
+use Rattle.oplog.specs.declared.replay.Part.{Part}
 use Rattle.player.proofs.print.Statement.{statement}
 use Rattle.player.proofs.print.Tie as tie
-use Rattle.player.proofs.print.Reads as reads
-use Rattle.player.proofs.print.Lts as lts
-use Rattle.io.proofs.write_all.Reads as write-all-reads
-use Rattle.oplog.proofs.StepAnswer.number.Reads as number-reads
-use Rattle.oplog.proofs.replay.replay.Reads as replay-reads
-use Rattle.oplog.proofs.replay.start.Reads as start-reads
+
+-- what is left of the offsets, where the loop goes on
+unfoldable leftIf : Bool → ℕ → ℕ
+leftIf going offset = pick going (suc (18446744073709551616 - offset)) 0
+
+less : (g q : Bool) (a b : ℕ) → g ≡ true → b < 18446744073709551616 → leftIf (q && ltb a b) b < leftIf g a
+unfolding leftIf pick
+less g q a b t h = rw t (all-pick (λ n. n < suc (18446744073709551616 - a)) (q && ltb a b) (suc (18446744073709551616 - b)) 0 (λ e. let l = ltb-true a b (and-right q (ltb a b) e) in omega arith) (λ _. omega arith))
+
+-- r is the part that a call gave, left the buffer then
+inside : (log out : List ℕ) (p : Place) (r : Part) (left : List ℕ) → r ≡ replayOf log out p .part → left ≡ replayOf log out p .buffer → r .at ≤ length left
+inside log out p r left er el = rw (er, el) (part-inside log out p)
 
 abbrev Inv-loop : tie.InvT-loop
-Inv-loop log out₀ place₀ going₀ out place going = ?
+Inv-loop log out₀ place₀ going₀ out place going = length out ≡ length out₀
 
 abbrev μ-loop : tie.MeasureT-loop
-μ-loop log out₀ place₀ going₀ out place going = ?
+μ-loop log out₀ place₀ going₀ out place going = leftIf going (place .offset)
 
--- src/lib.rt:22:9
 start-requires : tie.Need-start-requires Inv-loop μ-loop
-start-requires c κs = ?
+start-requires c κs = search needs
 
--- src/lib.rt:24:5
 loop-holds : tie.Need-loop-holds Inv-loop μ-loop
-loop-holds c = ?
+loop-holds c = refl
 
--- src/lib.rt:25:13
 replay-requires : tie.Need-replay-requires Inv-loop μ-loop
-replay-requires c κs = ?
+replay-requires c κs = search needs
 
--- src/lib.rt:26:38
 slice-reshare-prefix-write-all : tie.Need-slice-reshare-prefix-write-all Inv-loop μ-loop
-slice-reshare-prefix-write-all c = ?
+slice-reshare-prefix-write-all c = inside _ _ _ _ _ (c .before .before .replay .ensures .0) (c .before .before .replay .ensures .1)
 
--- src/lib.rt:26:38
 slice-aggregate-write-all : tie.Need-slice-aggregate-write-all Inv-loop μ-loop
-slice-aggregate-write-all c = ?
+slice-aggregate-write-all c = sym (length-take-le _ _ (inside _ _ _ _ _ (c .before .before .before .replay .ensures .0) (c .before .before .before .replay .ensures .1)))
 
--- src/lib.rt:26:9
 write-all-requires : tie.Need-write-all-requires Inv-loop μ-loop
-write-all-requires c κs = ?
+write-all-requires c κs = search needs
 
--- src/lib.rt:29:18
 number-requires : tie.Need-number-requires Inv-loop μ-loop
-number-requires c κs = ?
+number-requires c κs = search needs
 
--- src/lib.rt:24:5
 loop-less : tie.Need-loop-less Inv-loop μ-loop
-loop-less c = ?
+loop-less c =
+    let p = c .before .before .before .before .before .before .before .before .before .before .before .loop .place in
+    let r = c .before .before .before .before .before .before .before .before .replay .result in
+    let f : r .place .offset < 18446744073709551616 = search needs in
+    less _ (eqb (c .before .before .number .result) 26) (p .offset) (r .place .offset) (c .before .before .before .before .before .before .before .before .before .before .loop-test .taken) f
 
--- src/lib.rt:24:5
 loop-again : tie.Need-loop-again Inv-loop μ-loop
-loop-again c = ?
+loop-again c = search needs
 
--- src/lib.rt:21:1
 same-length : tie.Need-same-length Inv-loop μ-loop
-same-length c = ?
+same-length c = search needs
 
--- src/lib.rt:21:1
 returns : tie.Need-returns Inv-loop μ-loop
-returns c = ?
+returns c = search needs
 
 pub print-spec : {M : Type 1} → statement M
 print-spec =
