@@ -20,3 +20,4 @@ pub mod Messages
 pub mod Gone
 pub mod Flows
 pub mod ExampleMessages
+pub mod Edges

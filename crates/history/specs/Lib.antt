@@ -8,3 +8,4 @@ pub mod Public
 pub mod Waits
 pub mod Traffic
 pub mod Messages
+pub mod Edges
