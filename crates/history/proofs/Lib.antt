@@ -21,3 +21,4 @@ pub mod Gone
 pub mod Flows
 pub mod ExampleMessages
 pub mod Edges
+pub mod Idle

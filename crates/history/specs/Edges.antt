@@ -7,7 +7,6 @@ use Prim.Native.Nat.{ℕ, zero, suc}
 use Rattle.laws.specs.Refusals as no
 use Rattle.cap.specs.Id.{idOf, indexOf, generationOf, classOf}
 use Rattle.cap.specs.Slot.{slotNumber, slotValues}
-use Rattle.cap.specs.declared.CapId.{CapId}
 use Rattle.cap.specs.declared.CapClass.{CapClass}
 use Rattle.cap.specs.declared.CapClass.the-variants.{Endpoint, Task, Irq, Invalid}
 use Rattle.cap.specs.declared.slot.SlotAnswer.{SlotAnswer}
@@ -19,7 +18,6 @@ use Rattle.irqcap.specs.Table as irq
 use Rattle.irqcap.specs.declared.Table.{Table}
 use Rattle.manifest.specs.Bind.{bindOf, bindNumber, bindValues}
 use Rattle.manifest.specs.declared.AgentEntry.{AgentEntry}
-use Rattle.manifest.specs.declared.BindAnswer.{BindAnswer}
 use Rattle.manifest.specs.declared.Want.{Want}
 use Rattle.ipc.specs.Make.{freshOf, sizesOf}
 use Rattle.ipc.specs.Create.{createOf}

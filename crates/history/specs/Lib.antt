@@ -9,3 +9,4 @@ pub mod Waits
 pub mod Traffic
 pub mod Messages
 pub mod Edges
+pub mod Idle

@@ -1,0 +1,80 @@
+-- Document 01, "How much a contract has to say": the idle programs to try on it, and what each of them fails.
+--
+--   "refusing everything, or one constant reply"                 `FreshCreates`: "a fresh table with m 1, e 2 creates, and ids differ"
+--   "changing nothing, or serving the first call and             `MessagesCome`: "later messages come out"; `WaitersNamed`,
+--   posing later"                                                `HeldWaitersNamed`: "later waiters are named"; for every channel of a
+--                                                                run, however late it is made, and however many messages and tasks
+--   "inventing refusal, clearing or ended-entry counts"          the counts of a run: `CountsTold`
+use mathlib.Core.Path.{_≡_}
+use mathlib.Core.Bool.{Bool, false}
+use mathlib.Core.List.{List, [], _∷_}
+use Prim.Native.Nat.{ℕ}
+use Rattle.cap.specs.Slot.{holding}
+use Rattle.cap.specs.Word.{wordOf}
+use Rattle.ipc.specs.State.{nobody}
+use Rattle.ipc.specs.Make.{freshOf, sizesOf}
+use Rattle.ipc.specs.Receive.{waiting}
+use Rattle.ipc.specs.declared.state.Channel.{Channel}
+use Rattle.ipc.specs.declared.state.Message.{Message}
+use Rattle.ipc.specs.declared.state.TaskId.{TaskId}
+use Rattle.ipc.specs.declared.answers.CreateAnswer.the-variants.{Created}
+use Rattle.ipc.specs.declared.answers.SendAnswer.the-variants.{Sent}
+use Rattle.ipc.specs.declared.answers.RecvAnswer.the-variants.{Received}
+use Rattle.ipc.specs.declared.answers.ParkAnswer.the-variants.{Parked, Given}
+use Rattle.ipc.specs.declared.answers.RegisterAnswer.the-variants.{Registered}
+use Rattle.history.specs.Calls.{Call, create, send, receive, park, register, Answer, created, sent, received, parked, registered, answer}
+use Rattle.history.specs.World.{World, step, answers, Reached}
+use Rattle.history.specs.Ids.{Makes}
+
+-- ---- creation
+-- the fresh table creates, and the two ids differ
+pub record CreatesTwo (d : ℕ) (ephemeral : Bool) : Type 0 where
+  pub ids : Channel
+  pub answers : answer (freshOf (sizesOf 1 2 d)) (create ephemeral) ≡ created (Created ids)
+  pub differ : ids .send ≡ ids .recv → ⊥
+
+abbrev pub FreshCreates : Type 0
+FreshCreates = (d : ℕ) (ephemeral : Bool) → CreatesTwo d ephemeral
+
+-- ---- messages
+-- each message is sent and received, one after another
+unfoldable pub exchange : Channel → List Message → List Call
+exchange ids [] = []
+exchange ids (m ∷ ms) = send (ids .send) m ∷ receive (ids .recv) ∷ exchange ids ms
+
+-- each comes out
+unfoldable pub exchanged : List Message → List Answer
+exchanged [] = []
+exchanged (m ∷ ms) = sent (Sent nobody) ∷ received (Received m) ∷ exchanged ms
+
+abbrev pub MessagesCome : Type 0
+MessagesCome =
+    (w : World) → Reached w → (b : Bool) (n : ℕ) (ids : Channel) → Makes w b n ids →
+    (ms : List Message) → answers (step w (create b)) (exchange ids ms) ≡ exchanged ms
+
+-- ---- waiters
+-- a task that waits, and the message that it waits for
+pub record Wait : Type 0 where
+  pub task : TaskId
+  pub message : Message
+
+-- each task parks, its message is sent, and it parks again, one after another
+unfoldable pub waits : Channel → List Wait → List Call
+waits ids [] = []
+waits ids (x ∷ xs) = park (ids .recv) (x .task) ∷ send (ids .send) (x .message) ∷ park (ids .recv) (x .task) ∷ waits ids xs
+
+-- each send names the task, which is then given the message
+unfoldable pub waited : List Wait → List Answer
+waited [] = []
+waited (x ∷ xs) = parked Parked ∷ sent (Sent (waiting (x .task))) ∷ parked (Given (x .message)) ∷ waited xs
+
+abbrev pub WaitersNamed : Type 0
+WaitersNamed =
+    (w : World) → Reached w → (n : ℕ) (ids : Channel) → Makes w false n ids →
+    (xs : List Wait) → answers (step w (create false)) (waits ids xs) ≡ waited xs
+
+-- an ephemeral channel needs a hold first, a plain one may have it
+abbrev pub HeldWaitersNamed : Type 0
+HeldWaitersNamed =
+    (w : World) → Reached w → (b : Bool) (n : ℕ) (ids : Channel) → Makes w b n ids →
+    (xs : List Wait) → answers (step w (create b)) (register (wordOf (holding (ids .send)) ∷ []) ∷ waits ids xs) ≡ registered Registered ∷ waited xs
