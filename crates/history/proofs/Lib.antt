@@ -21,4 +21,5 @@ pub mod Gone
 pub mod Flows
 pub mod ExampleMessages
 pub mod Edges
+pub mod Stands
 pub mod Idle

@@ -4,7 +4,8 @@
 --   "changing nothing, or serving the first call and             `MessagesCome`: "later messages come out"; `WaitersNamed`,
 --   posing later"                                                `HeldWaitersNamed`: "later waiters are named"; for every channel of a
 --                                                                run, however late it is made, and however many messages and tasks
---   "inventing refusal, clearing or ended-entry counts"          the counts of a run: `CountsTold`
+--   "inventing refusal, clearing or ended-entry counts"          `CountsTold` in a run; what a clearing and an ending count, their rules
+--                                                                count over the table before
 use mathlib.Core.Path.{_≡_}
 use mathlib.Core.Bool.{Bool, false}
 use mathlib.Core.List.{List, [], _∷_}
@@ -12,25 +13,24 @@ use Prim.Native.Nat.{ℕ}
 use Rattle.cap.specs.Slot.{holding}
 use Rattle.cap.specs.Word.{wordOf}
 use Rattle.ipc.specs.State.{nobody}
-use Rattle.ipc.specs.Make.{freshOf, sizesOf}
+use Rattle.ipc.specs.Make.{sizesOf}
 use Rattle.ipc.specs.Receive.{waiting}
 use Rattle.ipc.specs.declared.state.Channel.{Channel}
 use Rattle.ipc.specs.declared.state.Message.{Message}
 use Rattle.ipc.specs.declared.state.TaskId.{TaskId}
-use Rattle.ipc.specs.declared.answers.CreateAnswer.the-variants.{Created}
 use Rattle.ipc.specs.declared.answers.SendAnswer.the-variants.{Sent}
 use Rattle.ipc.specs.declared.answers.RecvAnswer.the-variants.{Received}
 use Rattle.ipc.specs.declared.answers.ParkAnswer.the-variants.{Parked, Given}
 use Rattle.ipc.specs.declared.answers.RegisterAnswer.the-variants.{Registered}
-use Rattle.history.specs.Calls.{Call, create, send, receive, park, register, Answer, created, sent, received, parked, registered, answer}
-use Rattle.history.specs.World.{World, step, answers, Reached}
+use Rattle.history.specs.Calls.{Call, create, send, receive, park, register, Answer, sent, received, parked, registered}
+use Rattle.history.specs.World.{World, step, answers, start, Reached}
 use Rattle.history.specs.Ids.{Makes}
 
 -- ---- creation
--- the fresh table creates, and the two ids differ
+-- a fresh table with m 1, e 2 and any depth makes channel 1, and its two ids differ
 pub record CreatesTwo (d : ℕ) (ephemeral : Bool) : Type 0 where
   pub ids : Channel
-  pub answers : answer (freshOf (sizesOf 1 2 d)) (create ephemeral) ≡ created (Created ids)
+  pub makes : Makes (start (sizesOf 1 2 d)) ephemeral 1 ids
   pub differ : ids .send ≡ ids .recv → ⊥
 
 abbrev pub FreshCreates : Type 0
