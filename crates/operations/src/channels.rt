@@ -93,7 +93,7 @@ pub fn op_new(t: Tables, log: &[u8]) -> Outcome
 }
 
 // 1: any flag but 0 asks for an ephemeral channel.
-pub fn op_create(t: Tables, log: &[u8]) -> Outcome
+pub fn op_create(mut t: Tables, log: &[u8]) -> Outcome
     requires { ⌜ Sound (t .channels) ⌝ }
     ensures { λ r. ⌜ r ≡ packed (createDone (now (log .entry)) t) ⌝ }
 {
@@ -103,24 +103,17 @@ pub fn op_create(t: Tables, log: &[u8]) -> Outcome
     let v = create_values(answer);
     let at = v.at;
     let channels = created.table;
-    let rows = t.rows;
-    let tasks = t.tasks;
-    let irqs = t.irqs;
+    t.channels = channels;
     Outcome {
         number: answer.number(),
         values: at,
         count: v.count,
-        tables: Tables {
-            channels,
-            rows,
-            tasks,
-            irqs,
-        },
+        tables: t,
     }
 }
 
 // 6.
-pub fn op_revoke(t: Tables, log: &[u8]) -> Outcome
+pub fn op_revoke(mut t: Tables, log: &[u8]) -> Outcome
     requires { ⌜ Sound (t .channels) ⌝ }
     ensures { λ r. ⌜ r ≡ packed (revokeDone (now (log .entry)) t) ⌝ }
 {
@@ -132,24 +125,17 @@ pub fn op_revoke(t: Tables, log: &[u8]) -> Outcome
     let v = revoke_values(answer);
     let at = v.at;
     let channels = revoked.table;
-    let rows = t.rows;
-    let tasks = t.tasks;
-    let irqs = t.irqs;
+    t.channels = channels;
     Outcome {
         number: answer.number(),
         values: at,
         count: v.count,
-        tables: Tables {
-            channels,
-            rows,
-            tasks,
-            irqs,
-        },
+        tables: t,
     }
 }
 
 // 10.
-pub fn op_clear_waiter(t: Tables, log: &[u8]) -> Outcome
+pub fn op_clear_waiter(mut t: Tables, log: &[u8]) -> Outcome
     requires { ⌜ Sound (t .channels) ⌝ }
     ensures { λ r. ⌜ r ≡ packed (clearDone (now (log .entry)) t) ⌝ }
 {
@@ -162,18 +148,11 @@ pub fn op_clear_waiter(t: Tables, log: &[u8]) -> Outcome
     let v = clear_values(answer);
     let at = v.at;
     let channels = cleared.table;
-    let rows = t.rows;
-    let tasks = t.tasks;
-    let irqs = t.irqs;
+    t.channels = channels;
     Outcome {
         number: answer.number(),
         values: at,
         count: v.count,
-        tables: Tables {
-            channels,
-            rows,
-            tasks,
-            irqs,
-        },
+        tables: t,
     }
 }

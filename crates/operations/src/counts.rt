@@ -74,7 +74,7 @@ pub fn op_holders(t: Tables, log: &[u8]) -> Outcome
 }
 
 // 11.
-pub fn op_note_authority(t: Tables) -> Outcome
+pub fn op_note_authority(mut t: Tables) -> Outcome
     ensures { λ r. ⌜ r ≡ packed (noteAuthorityDone t) ⌝ }
 {
     let noted = ipc::inner::note_authority_refusal(t.channels);
@@ -82,24 +82,17 @@ pub fn op_note_authority(t: Tables) -> Outcome
     let v = values::none();
     let at = v.at;
     let channels = noted.table;
-    let rows = t.rows;
-    let tasks = t.tasks;
-    let irqs = t.irqs;
+    t.channels = channels;
     Outcome {
         number: answer.number(),
         values: at,
         count: v.count,
-        tables: Tables {
-            channels,
-            rows,
-            tasks,
-            irqs,
-        },
+        tables: t,
     }
 }
 
 // 12.
-pub fn op_note_state(t: Tables) -> Outcome
+pub fn op_note_state(mut t: Tables) -> Outcome
     ensures { λ r. ⌜ r ≡ packed (noteStateDone t) ⌝ }
 {
     let noted = ipc::inner::note_state_refusal(t.channels);
@@ -107,19 +100,12 @@ pub fn op_note_state(t: Tables) -> Outcome
     let v = values::none();
     let at = v.at;
     let channels = noted.table;
-    let rows = t.rows;
-    let tasks = t.tasks;
-    let irqs = t.irqs;
+    t.channels = channels;
     Outcome {
         number: answer.number(),
         values: at,
         count: v.count,
-        tables: Tables {
-            channels,
-            rows,
-            tasks,
-            irqs,
-        },
+        tables: t,
     }
 }
 

@@ -77,7 +77,7 @@ fn leave_values(a: LeaveAnswer, ws: [Waiter; 4]) -> Values
 }
 
 // 8.
-pub fn op_release(t: Tables, log: &[u8]) -> Outcome
+pub fn op_release(mut t: Tables, log: &[u8]) -> Outcome
     requires { ⌜ Sound (t .channels) ⌝ }
     ensures { λ r. ⌜ r ≡ packed (releaseDone (now (log .entry)) t) ⌝ }
 {
@@ -87,24 +87,17 @@ pub fn op_release(t: Tables, log: &[u8]) -> Outcome
     let v = release_values(answer, waiters);
     let at = v.at;
     let channels = freed.table;
-    let rows = t.rows;
-    let tasks = t.tasks;
-    let irqs = t.irqs;
+    t.channels = channels;
     Outcome {
         number: answer.number(),
         values: at,
         count: v.count,
-        tables: Tables {
-            channels,
-            rows,
-            tasks,
-            irqs,
-        },
+        tables: t,
     }
 }
 
 // 18.
-pub fn op_drain(t: Tables, log: &[u8]) -> Outcome
+pub fn op_drain(mut t: Tables, log: &[u8]) -> Outcome
     ensures { λ r. ⌜ r ≡ packed (drainDone (now (log .entry)) t) ⌝ }
 {
     let row = byte_at(log, 3) as usize;
@@ -112,25 +105,18 @@ pub fn op_drain(t: Tables, log: &[u8]) -> Outcome
     let slots = drained.slots;
     let v = four_slots(slots);
     let at = v.at;
-    let channels = t.channels;
     let rows = drained.table;
-    let tasks = t.tasks;
-    let irqs = t.irqs;
+    t.rows = rows;
     Outcome {
         number: refusals::ACCEPTED,
         values: at,
         count: v.count,
-        tables: Tables {
-            channels,
-            rows,
-            tasks,
-            irqs,
-        },
+        tables: t,
     }
 }
 
 // 25.
-pub fn op_leave(t: Tables, log: &[u8]) -> Outcome
+pub fn op_leave(mut t: Tables, log: &[u8]) -> Outcome
     requires { ⌜ Sound (t .channels) ⌝ }
     ensures { λ r. ⌜ r ≡ packed (leaveDone (now (log .entry)) t) ⌝ }
 {
@@ -142,17 +128,12 @@ pub fn op_leave(t: Tables, log: &[u8]) -> Outcome
     let at = v.at;
     let channels = left.channels;
     let rows = left.rows;
-    let tasks = t.tasks;
-    let irqs = t.irqs;
+    t.channels = channels;
+    t.rows = rows;
     Outcome {
         number: answer.number(),
         values: at,
         count: v.count,
-        tables: Tables {
-            channels,
-            rows,
-            tasks,
-            irqs,
-        },
+        tables: t,
     }
 }

@@ -9,7 +9,7 @@ use crate::values;
 use logread::list_words;
 
 // 7.
-pub fn op_register(t: Tables, log: &[u8]) -> Outcome
+pub fn op_register(mut t: Tables, log: &[u8]) -> Outcome
     requires { ⌜ Sound (t .channels) ⌝ }
     ensures { λ r. ⌜ r ≡ packed (registerDone (now (log .entry)) t) ⌝ }
 {
@@ -19,18 +19,11 @@ pub fn op_register(t: Tables, log: &[u8]) -> Outcome
     let v = values::none();
     let at = v.at;
     let channels = registered.table;
-    let rows = t.rows;
-    let tasks = t.tasks;
-    let irqs = t.irqs;
+    t.channels = channels;
     Outcome {
         number: answer.number(),
         values: at,
         count: v.count,
-        tables: Tables {
-            channels,
-            rows,
-            tasks,
-            irqs,
-        },
+        tables: t,
     }
 }

@@ -12,7 +12,7 @@ use logread::list_words;
 use logread::u32_at;
 
 // 24.
-pub fn op_spawn(t: Tables, log: &[u8]) -> Outcome
+pub fn op_spawn(mut t: Tables, log: &[u8]) -> Outcome
     requires { ⌜ Sound (t .channels) ⌝ }
     ensures { λ r. ⌜ r ≡ packed (spawnDone (now (log .entry)) t) ⌝ }
 {
@@ -24,23 +24,18 @@ pub fn op_spawn(t: Tables, log: &[u8]) -> Outcome
     let at = v.at;
     let channels = spawned.channels;
     let rows = spawned.rows;
-    let tasks = t.tasks;
-    let irqs = t.irqs;
+    t.channels = channels;
+    t.rows = rows;
     Outcome {
         number: answer.number(),
         values: at,
         count: v.count,
-        tables: Tables {
-            channels,
-            rows,
-            tasks,
-            irqs,
-        },
+        tables: t,
     }
 }
 
 // 26.
-pub fn op_give(t: Tables, log: &[u8]) -> Outcome
+pub fn op_give(mut t: Tables, log: &[u8]) -> Outcome
     requires { ⌜ Sound (t .channels) ⌝ }
     ensures { λ r. ⌜ r ≡ packed (giveDone (now (log .entry)) t) ⌝ }
 {
@@ -55,17 +50,12 @@ pub fn op_give(t: Tables, log: &[u8]) -> Outcome
     let at = v.at;
     let channels = given.channels;
     let rows = given.rows;
-    let tasks = t.tasks;
-    let irqs = t.irqs;
+    t.channels = channels;
+    t.rows = rows;
     Outcome {
         number: answer.number(),
         values: at,
         count: v.count,
-        tables: Tables {
-            channels,
-            rows,
-            tasks,
-            irqs,
-        },
+        tables: t,
     }
 }

@@ -69,7 +69,7 @@ fn park_values(a: ParkAnswer) -> Values
 }
 
 // 2.
-pub fn op_send(t: Tables, log: &[u8]) -> Outcome
+pub fn op_send(mut t: Tables, log: &[u8]) -> Outcome
     requires { ⌜ Sound (t .channels) ⌝ }
     ensures { λ r. ⌜ r ≡ packed (sendDone (now (log .entry)) t) ⌝ }
 {
@@ -86,24 +86,17 @@ pub fn op_send(t: Tables, log: &[u8]) -> Outcome
     let v = send_values(answer);
     let at = v.at;
     let channels = sent.table;
-    let rows = t.rows;
-    let tasks = t.tasks;
-    let irqs = t.irqs;
+    t.channels = channels;
     Outcome {
         number: answer.number(),
         values: at,
         count: v.count,
-        tables: Tables {
-            channels,
-            rows,
-            tasks,
-            irqs,
-        },
+        tables: t,
     }
 }
 
 // 3.
-pub fn op_receive(t: Tables, log: &[u8]) -> Outcome
+pub fn op_receive(mut t: Tables, log: &[u8]) -> Outcome
     requires { ⌜ Sound (t .channels) ⌝ }
     ensures { λ r. ⌜ r ≡ packed (receiveDone (now (log .entry)) t) ⌝ }
 {
@@ -115,24 +108,17 @@ pub fn op_receive(t: Tables, log: &[u8]) -> Outcome
     let v = recv_values(answer);
     let at = v.at;
     let channels = received.table;
-    let rows = t.rows;
-    let tasks = t.tasks;
-    let irqs = t.irqs;
+    t.channels = channels;
     Outcome {
         number: answer.number(),
         values: at,
         count: v.count,
-        tables: Tables {
-            channels,
-            rows,
-            tasks,
-            irqs,
-        },
+        tables: t,
     }
 }
 
 // 4.
-pub fn op_park(t: Tables, log: &[u8]) -> Outcome
+pub fn op_park(mut t: Tables, log: &[u8]) -> Outcome
     requires { ⌜ Sound (t .channels) ⌝ }
     ensures { λ r. ⌜ r ≡ packed (parkDone (now (log .entry)) t) ⌝ }
 {
@@ -148,18 +134,11 @@ pub fn op_park(t: Tables, log: &[u8]) -> Outcome
     let v = park_values(answer);
     let at = v.at;
     let channels = parked.table;
-    let rows = t.rows;
-    let tasks = t.tasks;
-    let irqs = t.irqs;
+    t.channels = channels;
     Outcome {
         number: answer.number(),
         values: at,
         count: v.count,
-        tables: Tables {
-            channels,
-            rows,
-            tasks,
-            irqs,
-        },
+        tables: t,
     }
 }

@@ -33,7 +33,7 @@ fn lookup_values(a: LookupAnswer) -> Values
 }
 
 // 19.
-pub fn op_task_mint(t: Tables, log: &[u8]) -> Outcome
+pub fn op_task_mint(mut t: Tables, log: &[u8]) -> Outcome
     ensures { λ r. ⌜ r ≡ packed (taskMintDone (now (log .entry)) t) ⌝ }
 {
     let task = u32_at(log, 3);
@@ -41,20 +41,13 @@ pub fn op_task_mint(t: Tables, log: &[u8]) -> Outcome
     let answer = minted.answer;
     let v = mint_values(answer);
     let at = v.at;
-    let channels = t.channels;
-    let rows = t.rows;
     let tasks = minted.table;
-    let irqs = t.irqs;
+    t.tasks = tasks;
     Outcome {
         number: answer.number(),
         values: at,
         count: v.count,
-        tables: Tables {
-            channels,
-            rows,
-            tasks,
-            irqs,
-        },
+        tables: t,
     }
 }
 
@@ -77,32 +70,25 @@ pub fn op_task_lookup(t: Tables, log: &[u8]) -> Outcome
 }
 
 // 21: nothing refuses it.
-pub fn op_task_end(t: Tables, log: &[u8]) -> Outcome
+pub fn op_task_end(mut t: Tables, log: &[u8]) -> Outcome
     ensures { λ r. ⌜ r ≡ packed (taskEndDone (now (log .entry)) t) ⌝ }
 {
     let task = u32_at(log, 3);
     let ended = taskcap::revoke_task(t.tasks, task);
     let v = values::one(ended.count as u64);
     let at = v.at;
-    let channels = t.channels;
-    let rows = t.rows;
     let tasks = ended.table;
-    let irqs = t.irqs;
+    t.tasks = tasks;
     Outcome {
         number: refusals::ACCEPTED,
         values: at,
         count: v.count,
-        tables: Tables {
-            channels,
-            rows,
-            tasks,
-            irqs,
-        },
+        tables: t,
     }
 }
 
 // 22.
-pub fn op_irq_mint(t: Tables, log: &[u8]) -> Outcome
+pub fn op_irq_mint(mut t: Tables, log: &[u8]) -> Outcome
     ensures { λ r. ⌜ r ≡ packed (irqMintDone (now (log .entry)) t) ⌝ }
 {
     let cookie = u32_at(log, 3);
@@ -110,20 +96,13 @@ pub fn op_irq_mint(t: Tables, log: &[u8]) -> Outcome
     let answer = minted.answer;
     let v = mint_values(answer);
     let at = v.at;
-    let channels = t.channels;
-    let rows = t.rows;
-    let tasks = t.tasks;
     let irqs = minted.table;
+    t.irqs = irqs;
     Outcome {
         number: answer.number(),
         values: at,
         count: v.count,
-        tables: Tables {
-            channels,
-            rows,
-            tasks,
-            irqs,
-        },
+        tables: t,
     }
 }
 

@@ -71,7 +71,7 @@ pub fn op_holds(t: Tables, log: &[u8]) -> Outcome
 }
 
 // 15.
-pub fn op_seed(t: Tables, log: &[u8]) -> Outcome
+pub fn op_seed(mut t: Tables, log: &[u8]) -> Outcome
     ensures { λ r. ⌜ r ≡ packed (seedDone (now (log .entry)) t) ⌝ }
 {
     let row = byte_at(log, 3) as usize;
@@ -80,25 +80,18 @@ pub fn op_seed(t: Tables, log: &[u8]) -> Outcome
     let answer = seeded.answer;
     let v = values::none();
     let at = v.at;
-    let channels = t.channels;
     let rows = seeded.table;
-    let tasks = t.tasks;
-    let irqs = t.irqs;
+    t.rows = rows;
     Outcome {
         number: answer.number(),
         values: at,
         count: v.count,
-        tables: Tables {
-            channels,
-            rows,
-            tasks,
-            irqs,
-        },
+        tables: t,
     }
 }
 
 // 16.
-pub fn op_install(t: Tables, log: &[u8]) -> Outcome
+pub fn op_install(mut t: Tables, log: &[u8]) -> Outcome
     ensures { λ r. ⌜ r ≡ packed (installDone (now (log .entry)) t) ⌝ }
 {
     let row = byte_at(log, 3) as usize;
@@ -110,25 +103,18 @@ pub fn op_install(t: Tables, log: &[u8]) -> Outcome
     let answer = installed.answer;
     let v = values::none();
     let at = v.at;
-    let channels = t.channels;
     let rows = installed.table;
-    let tasks = t.tasks;
-    let irqs = t.irqs;
+    t.rows = rows;
     Outcome {
         number: answer.number(),
         values: at,
         count: v.count,
-        tables: Tables {
-            channels,
-            rows,
-            tasks,
-            irqs,
-        },
+        tables: t,
     }
 }
 
 // 17.
-pub fn op_transfer(t: Tables, log: &[u8]) -> Outcome
+pub fn op_transfer(mut t: Tables, log: &[u8]) -> Outcome
     ensures { λ r. ⌜ r ≡ packed (transferDone (now (log .entry)) t) ⌝ }
 {
     let from_row = byte_at(log, 3) as usize;
@@ -139,19 +125,12 @@ pub fn op_transfer(t: Tables, log: &[u8]) -> Outcome
     let answer = transferred.answer;
     let v = values::none();
     let at = v.at;
-    let channels = t.channels;
     let rows = transferred.table;
-    let tasks = t.tasks;
-    let irqs = t.irqs;
+    t.rows = rows;
     Outcome {
         number: answer.number(),
         values: at,
         count: v.count,
-        tables: Tables {
-            channels,
-            rows,
-            tasks,
-            irqs,
-        },
+        tables: t,
     }
 }

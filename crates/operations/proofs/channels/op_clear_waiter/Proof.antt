@@ -23,8 +23,8 @@ number-requires c κs = search needs
 returns : tie.Need-returns
 unfolding clearDone
 returns c =
-    rw (← c .before .before .before .before .before .before .before .before .u16-at2 .ensures, ← c .before .before .before .before .before .before .before .before .before .u16-at .ensures)
-    (packs (cleared (c .before .before .before .before .before .before .before .before .before .before .before .args .t)) (c .before .before .before .before .before .before .before .clear-waiter .ensures) (c .number .ensures) (c .before .before .before .before .before .before .clear-values .ensures))
+    rw (← c .before .before .before .before .before .u16-at2 .ensures, ← c .before .before .before .before .before .before .u16-at .ensures)
+    (packs (cleared (c .before .before .before .before .before .before .before .before .args .t)) (c .before .before .before .before .clear-waiter .ensures) (c .number .ensures) (c .before .before .before .clear-values .ensures))
 
 pub op-clear-waiter-spec : {M : Type 1} → statement M
 op-clear-waiter-spec =

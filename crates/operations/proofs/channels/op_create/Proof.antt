@@ -20,8 +20,8 @@ number-requires c κs = search needs
 returns : tie.Need-returns
 unfolding createDone
 returns c =
-    rw (← c .before .before .before .before .before .before .before .before .byte-at .ensures)
-    (packs (created (c .before .before .before .before .before .before .before .before .before .before .args .t)) (c .before .before .before .before .before .before .before .create .ensures) (c .number .ensures) (c .before .before .before .before .before .before .create-values .ensures))
+    rw (← c .before .before .before .before .before .byte-at .ensures)
+    (packs (created (c .before .before .before .before .before .before .before .args .t)) (c .before .before .before .before .create .ensures) (c .number .ensures) (c .before .before .before .create-values .ensures))
 
 pub op-create-spec : {M : Type 1} → statement M
 op-create-spec =

@@ -20,8 +20,8 @@ number-requires c κs = search needs
 returns : tie.Need-returns
 unfolding revokeDone
 returns c =
-    rw (← c .before .before .before .before .before .before .before .before .u32-at .ensures)
-    (packs (revoked (c .before .before .before .before .before .before .before .before .before .before .args .t)) (c .before .before .before .before .before .before .before .revoke-channel .ensures) (c .number .ensures) (c .before .before .before .before .before .before .revoke-values .ensures))
+    rw (← c .before .before .before .before .before .u32-at .ensures)
+    (packs (revoked (c .before .before .before .before .before .before .before .args .t)) (c .before .before .before .before .revoke-channel .ensures) (c .number .ensures) (c .before .before .before .revoke-values .ensures))
 
 pub op-revoke-spec : {M : Type 1} → statement M
 op-revoke-spec =

@@ -17,7 +17,7 @@ number-requires c κs = search needs
 returns : tie.Need-returns
 unfolding noteAuthorityDone
 returns c =
-    packs (noted (c .before .before .before .before .before .before .before .before .args .t)) (c .before .before .before .before .before .before .before .note-authority-refusal .ensures) (c .number .ensures) (c .before .before .before .before .before .before .none .ensures)
+    packs (noted (c .before .before .before .before .before .args .t)) (c .before .before .before .before .note-authority-refusal .ensures) (c .number .ensures) (c .before .before .before .none .ensures)
 
 pub op-note-authority-spec : {M : Type 1} → statement M
 op-note-authority-spec =

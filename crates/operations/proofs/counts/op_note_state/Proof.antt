@@ -17,7 +17,7 @@ number-requires c κs = search needs
 returns : tie.Need-returns
 unfolding noteStateDone
 returns c =
-    packs (noted (c .before .before .before .before .before .before .before .before .args .t)) (c .before .before .before .before .before .before .before .note-state-refusal .ensures) (c .number .ensures) (c .before .before .before .before .before .before .none .ensures)
+    packs (noted (c .before .before .before .before .before .args .t)) (c .before .before .before .before .note-state-refusal .ensures) (c .number .ensures) (c .before .before .before .none .ensures)
 
 pub op-note-state-spec : {M : Type 1} → statement M
 op-note-state-spec =

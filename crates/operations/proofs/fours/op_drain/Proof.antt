@@ -21,8 +21,8 @@ four-slots-requires c κs = search needs
 returns : tie.Need-returns
 unfolding drainDone
 returns c =
-    rw (← c .before .before .before .before .before .before .before .before .byte-at .ensures)
-    (packs (drained (c .before .before .before .before .before .before .before .before .before .before .args .t)) (c .before .before .before .before .before .before .before .drain .ensures) refl (c .before .before .before .before .before .four-slots .ensures))
+    rw (← c .before .before .before .before .before .byte-at .ensures)
+    (packs (drained (c .before .before .before .before .before .before .before .args .t)) (c .before .before .before .before .drain .ensures) refl (c .before .before .four-slots .ensures))
 
 pub op-drain-spec : {M : Type 1} → statement M
 op-drain-spec =

@@ -23,8 +23,8 @@ number-requires c κs = search needs
 returns : tie.Need-returns
 unfolding leaveDone
 returns c =
-    rw (← c .before .before .before .before .before .before .before .before .before .byte-at .ensures)
-    (packs (left (c .before .before .before .before .before .before .before .before .before .before .before .args .t)) (c .before .before .before .before .before .before .before .before .leave .ensures) (c .number .ensures) (c .before .before .before .before .before .before .leave-values .ensures))
+    rw (← c .before .before .before .before .before .before .before .byte-at .ensures)
+    (packs (left (c .before .before .before .before .before .before .before .before .before .args .t)) (c .before .before .before .before .before .before .leave .ensures) (c .number .ensures) (c .before .before .before .before .leave-values .ensures))
 
 pub op-leave-spec : {M : Type 1} → statement M
 op-leave-spec =

@@ -20,8 +20,8 @@ number-requires c κs = search needs
 returns : tie.Need-returns
 unfolding releaseDone
 returns c =
-    rw (← c .before .before .before .before .before .before .before .before .before .list-slots .ensures)
-    (packs (released (c .before .before .before .before .before .before .before .before .before .before .before .args .t)) (c .before .before .before .before .before .before .before .before .release-holds .ensures) (c .number .ensures) (c .before .before .before .before .before .before .release-values .ensures))
+    rw (← c .before .before .before .before .before .before .list-slots .ensures)
+    (packs (released (c .before .before .before .before .before .before .before .before .args .t)) (c .before .before .before .before .before .release-holds .ensures) (c .number .ensures) (c .before .before .before .release-values .ensures))
 
 pub op-release-spec : {M : Type 1} → statement M
 op-release-spec =

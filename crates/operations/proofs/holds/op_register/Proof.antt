@@ -23,8 +23,8 @@ number-requires c κs = search needs
 returns : tie.Need-returns
 unfolding registerDone
 returns c =
-    rw (← c .before .before .before .before .before .before .before .before .before .list-words .ensures)
-    (packs (registered (c .before .before .before .before .before .before .before .before .before .before .before .args .t)) (c .before .before .before .before .before .before .before .register-holds .ensures) (c .number .ensures) (c .before .before .before .before .before .before .none .ensures))
+    rw (← c .before .before .before .before .before .before .list-words .ensures)
+    (packs (registered (c .before .before .before .before .before .before .before .before .args .t)) (c .before .before .before .before .register-holds .ensures) (c .number .ensures) (c .before .before .before .none .ensures))
 
 pub op-register-spec : {M : Type 1} → statement M
 op-register-spec =

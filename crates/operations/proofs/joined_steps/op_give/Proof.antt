@@ -32,8 +32,8 @@ number-requires c κs = search needs
 returns : tie.Need-returns
 unfolding giveDone
 returns c =
-    rw (← c .before .before .before .before .before .before .before .before .u32-at .ensures, ← c .before .before .before .before .before .before .before .before .before .byte-at2 .ensures, ← c .before .before .before .before .before .before .before .before .before .before .byte-at .ensures)
-    (packs (given (c .before .before .before .before .before .before .before .before .before .before .before .before .args .t)) (c .before .before .before .before .before .before .before .give .ensures) (c .number .ensures) (c .before .before .before .before .before .before .none .ensures))
+    rw (← c .before .before .before .before .before .before .u32-at .ensures, ← c .before .before .before .before .before .before .before .byte-at2 .ensures, ← c .before .before .before .before .before .before .before .before .byte-at .ensures)
+    (packs (given (c .before .before .before .before .before .before .before .before .before .before .args .t)) (c .before .before .before .before .before .give .ensures) (c .number .ensures) (c .before .before .before .before .none .ensures))
 
 pub op-give-spec : {M : Type 1} → statement M
 op-give-spec =

@@ -29,8 +29,8 @@ number-requires c κs = search needs
 returns : tie.Need-returns
 unfolding spawnDone
 returns c =
-    rw (← c .before .before .before .before .before .before .before .before .before .list-words .ensures, ← c .before .before .before .before .before .before .before .before .before .before .byte-at .ensures)
-    (packs (spawned (c .before .before .before .before .before .before .before .before .before .before .before .before .args .t)) (c .before .before .before .before .before .before .before .spawn .ensures) (c .number .ensures) (c .before .before .before .before .before .before .none .ensures))
+    rw (← c .before .before .before .before .before .before .before .list-words .ensures, ← c .before .before .before .before .before .before .before .before .byte-at .ensures)
+    (packs (spawned (c .before .before .before .before .before .before .before .before .before .before .args .t)) (c .before .before .before .before .before .spawn .ensures) (c .number .ensures) (c .before .before .before .before .none .ensures))
 
 pub op-spawn-spec : {M : Type 1} → statement M
 op-spawn-spec =

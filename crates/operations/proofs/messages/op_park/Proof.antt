@@ -26,8 +26,8 @@ number-requires c κs = search needs
 returns : tie.Need-returns
 unfolding parkDone
 returns c =
-    rw (← c .before .before .before .before .before .before .before .before .u16-at2 .ensures, ← c .before .before .before .before .before .before .before .before .before .u16-at .ensures, ← c .before .before .before .before .before .before .before .before .before .before .u32-at .ensures)
-    (packs (parked (c .before .before .before .before .before .before .before .before .before .before .before .before .args .t)) (c .before .before .before .before .before .before .before .park .ensures) (c .number .ensures) (c .before .before .before .before .before .before .park-values .ensures))
+    rw (← c .before .before .before .before .before .u16-at2 .ensures, ← c .before .before .before .before .before .before .u16-at .ensures, ← c .before .before .before .before .before .before .before .u32-at .ensures)
+    (packs (parked (c .before .before .before .before .before .before .before .before .before .args .t)) (c .before .before .before .before .park .ensures) (c .number .ensures) (c .before .before .before .park-values .ensures))
 
 pub op-park-spec : {M : Type 1} → statement M
 op-park-spec =

@@ -20,8 +20,8 @@ number-requires c κs = search needs
 returns : tie.Need-returns
 unfolding receiveDone
 returns c =
-    rw (← c .before .before .before .before .before .before .before .before .u32-at .ensures)
-    (packs (received (c .before .before .before .before .before .before .before .before .before .before .args .t)) (c .before .before .before .before .before .before .before .try-recv .ensures) (c .number .ensures) (c .before .before .before .before .before .before .recv-values .ensures))
+    rw (← c .before .before .before .before .before .u32-at .ensures)
+    (packs (received (c .before .before .before .before .before .before .before .args .t)) (c .before .before .before .before .try-recv .ensures) (c .number .ensures) (c .before .before .before .recv-values .ensures))
 
 pub op-receive-spec : {M : Type 1} → statement M
 op-receive-spec =

@@ -29,8 +29,8 @@ number-requires c κs = search needs
 returns : tie.Need-returns
 unfolding sendDone
 returns c =
-    rw (← c .before .before .before .before .before .before .before .before .u64-at2 .ensures, ← c .before .before .before .before .before .before .before .before .before .u64-at .ensures, ← c .before .before .before .before .before .before .before .before .before .before .u32-at2 .ensures, ← c .before .before .before .before .before .before .before .before .before .before .before .u32-at .ensures)
-    (packs (sent (c .before .before .before .before .before .before .before .before .before .before .before .before .before .args .t)) (c .before .before .before .before .before .before .before .send .ensures) (c .number .ensures) (c .before .before .before .before .before .before .send-values .ensures))
+    rw (← c .before .before .before .before .before .u64-at2 .ensures, ← c .before .before .before .before .before .before .u64-at .ensures, ← c .before .before .before .before .before .before .before .u32-at2 .ensures, ← c .before .before .before .before .before .before .before .before .u32-at .ensures)
+    (packs (sent (c .before .before .before .before .before .before .before .before .before .before .args .t)) (c .before .before .before .before .send .ensures) (c .number .ensures) (c .before .before .before .send-values .ensures))
 
 pub op-send-spec : {M : Type 1} → statement M
 op-send-spec =

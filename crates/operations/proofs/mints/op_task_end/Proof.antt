@@ -21,8 +21,8 @@ one-requires c κs = search needs
 returns : tie.Need-returns
 unfolding taskEndDone
 returns c =
-    rw (← c .before .before .before .before .before .before .before .before .u32-at .ensures)
-    (packs (ended (c .before .before .before .before .before .before .before .before .before .before .args .t)) (c .before .before .before .before .before .before .before .revoke-task .ensures) refl (c .before .before .before .before .before .one .ensures))
+    rw (← c .before .before .before .before .before .u32-at .ensures)
+    (packs (ended (c .before .before .before .before .before .before .before .args .t)) (c .before .before .before .before .revoke-task .ensures) refl (c .before .before .one .ensures))
 
 pub op-task-end-spec : {M : Type 1} → statement M
 op-task-end-spec =

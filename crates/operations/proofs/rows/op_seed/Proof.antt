@@ -29,8 +29,8 @@ number-requires c κs = search needs
 returns : tie.Need-returns
 unfolding seedDone
 returns c =
-    rw (← c .before .before .before .before .before .before .before .before .before .list-words .ensures, ← c .before .before .before .before .before .before .before .before .before .before .byte-at .ensures)
-    (packs (seeded (c .before .before .before .before .before .before .before .before .before .before .before .before .args .t)) (c .before .before .before .before .before .before .before .seed .ensures) (c .number .ensures) (c .before .before .before .before .before .before .none .ensures))
+    rw (← c .before .before .before .before .before .before .list-words .ensures, ← c .before .before .before .before .before .before .before .byte-at .ensures)
+    (packs (seeded (c .before .before .before .before .before .before .before .before .before .args .t)) (c .before .before .before .before .seed .ensures) (c .number .ensures) (c .before .before .before .none .ensures))
 
 pub op-seed-spec : {M : Type 1} → statement M
 op-seed-spec =

@@ -41,8 +41,8 @@ number-requires c κs = search needs
 returns : tie.Need-returns
 unfolding transferDone
 returns c =
-    rw (← c .before .before .before .before .before .before .before .before .byte-at4 .ensures, ← c .before .before .before .before .before .before .before .before .before .byte-at3 .ensures, ← c .before .before .before .before .before .before .before .before .before .before .byte-at2 .ensures, ← c .before .before .before .before .before .before .before .before .before .before .before .byte-at .ensures)
-    (packs (transferred (c .before .before .before .before .before .before .before .before .before .before .before .before .before .args .t)) (c .before .before .before .before .before .before .before .transfer .ensures) (c .number .ensures) (c .before .before .before .before .before .before .none .ensures))
+    rw (← c .before .before .before .before .before .byte-at4 .ensures, ← c .before .before .before .before .before .before .byte-at3 .ensures, ← c .before .before .before .before .before .before .before .byte-at2 .ensures, ← c .before .before .before .before .before .before .before .before .byte-at .ensures)
+    (packs (transferred (c .before .before .before .before .before .before .before .before .before .before .args .t)) (c .before .before .before .before .transfer .ensures) (c .number .ensures) (c .before .before .before .none .ensures))
 
 pub op-transfer-spec : {M : Type 1} → statement M
 op-transfer-spec =
