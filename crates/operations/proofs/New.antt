@@ -7,46 +7,42 @@ use native.Mathlib.Omega.{arith}
 use Rattle.laws.specs.Pick.{pick}
 use Rattle.laws.proofs.Cases.{all-pick}
 use Rattle.laws.specs.Refusals as no
-use Rattle.capslots.specs.Table as rows
-use Rattle.capslots.specs.declared.Table.{Table as Rows}
-use Rattle.irqcap.specs.Table as irqs
-use Rattle.irqcap.specs.declared.Table.{Table as Irqs}
-use Rattle.taskcap.specs.Table as tasks
-use Rattle.taskcap.specs.declared.Table.{Table as Tasks}
 use Rattle.ipc.specs.Answers.{newNumber}
-use Rattle.ipc.specs.Make.{inRange, sizesOf, freshOf, newOf}
+use Rattle.ipc.specs.Make.{inRange, sizesOf, newOf}
 use Rattle.ipc.specs.declared.answers.New.{New}
 use Rattle.ipc.specs.declared.answers.NewAnswer.{NewAnswer}
 use Rattle.ipc.specs.declared.answers.NewAnswer.the-variants.{Made, BadSizes}
 use Rattle.logread.specs.Little.{byteAt}
 use Rattle.operations.specs.Values.{held}
 use Rattle.operations.specs.Done.{packed}
-use Rattle.operations.specs.Channels.{newDone}
+use Rattle.operations.specs.Channels.{allFresh, freshBy, newDone}
 use Rattle.operations.specs.declared.values.Values.{Values}
 use Rattle.operations.specs.declared.Outcome.{Outcome}
 use Rattle.operations.specs.declared.Tables.{Tables}
+use Rattle.operations.specs.declared.channels.Fresh.{Fresh}
 
 not-both-answers : _≡_ {A = NewAnswer} Made BadSizes → ⊥
 not-both-answers e = let z : _≡_ {A = ℕ} 0 20 = ap newNumber e in omega arith
 
-module _ (m e d : ℕ) {n : New} (g : n ≡ newOf m e d) where
-  pub out-of-range : n .answer ≡ BadSizes → inRange (sizesOf m e d) ≡ false
+-- n is what the code made
+module _ (m e d : ℕ) {n : Fresh} (g : n ≡ freshBy (newOf m e d)) where
+  out-of-range : n .answer ≡ BadSizes → inRange (sizesOf m e d) ≡ false
   unfolding newOf
   out-of-range h =
       all-pick (λ (r : New). r .answer ≡ BadSizes → inRange (sizesOf m e d) ≡ false) _ _ _ (λ _ x. absurd (not-both-answers x)) (λ f _. f)
-      (sym (ap (λ (x : New). x .answer) g) ∙ h)
+      (sym (ap (λ (x : Fresh). x .answer) g) ∙ h)
 
-  pub in-range : n .answer ≡ Made → inRange (sizesOf m e d) ≡ true
+  in-range : n .answer ≡ Made → inRange (sizesOf m e d) ≡ true
   unfolding newOf
   in-range h =
       all-pick (λ (r : New). r .answer ≡ Made → inRange (sizesOf m e d) ≡ true) _ _ _ (λ y _. y) (λ _ x. absurd (not-both-answers (sym x)))
-      (sym (ap (λ (x : New). x .answer) g) ∙ h)
+      (sym (ap (λ (x : Fresh). x .answer) g) ∙ h)
 
-  pub made-fresh : n .answer ≡ Made → n .table ≡ freshOf (sizesOf m e d)
+  pub made-fresh : inRange (sizesOf m e d) ≡ true → n .tables ≡ allFresh m e d
   unfolding newOf pick
-  made-fresh h = let y = in-range h in rw (g, y)
+  made-fresh y = rw (g, y)
 
-module _ (log : List ℕ) (t : Tables) {m e d : ℕ} (a : m ≡ byteAt log 3) (b : e ≡ byteAt log 4) (c : d ≡ byteAt log 5) {n : New} (g : n ≡ newOf m e d)
+module _ (log : List ℕ) (t : Tables) {m e d : ℕ} (a : m ≡ byteAt log 3) (b : e ≡ byteAt log 4) (c : d ≡ byteAt log 5) {n : Fresh} (g : n ≡ freshBy (newOf m e d))
     {v : Values} (q : v ≡ held []) where
   -- the code keeps the tables
   pub new-refused : n .answer ≡ BadSizes
@@ -54,8 +50,7 @@ module _ (log : List ℕ) (t : Tables) {m e d : ℕ} (a : m ≡ byteAt log 3) (b
   unfolding newDone pick
   new-refused h = let f = out-of-range m e d g h in rw (← a, ← b, ← c, f, q)
 
-  -- the code makes the others fresh too
-  pub new-made : {x : Rows} {y : Tasks} {z : Irqs} → n .answer ≡ Made → x ≡ rows.freshTable → y ≡ tasks.freshTable → z ≡ irqs.freshTable
-      → _≡_ {A = Outcome} (record { number = no.accepted; values = v .at; count = v .count; tables = record { channels = n .table; rows = x; tasks = y; irqs = z } }) (packed (newDone log t))
+  pub new-made : n .answer ≡ Made
+      → _≡_ {A = Outcome} (record { number = no.accepted; values = v .at; count = v .count; tables = n .tables }) (packed (newDone log t))
   unfolding newDone pick
-  new-made h x y z = let f = in-range m e d g h in rw (← a, ← b, ← c, f, q, made-fresh m e d g h, x, y, z)
+  new-made h = let f = in-range m e d g h in rw (← a, ← b, ← c, f, q, made-fresh m e d g f)

@@ -17,6 +17,7 @@ use Rattle.ipc.specs.Receive.{recvOf, parkOf}
 use Rattle.ipc.specs.Revoke.{revokeOf}
 use Rattle.ipc.specs.Send.{sendOf}
 use Rattle.ipc.specs.Waiters.{clearOf}
+use Rattle.ipc.specs.declared.answers.New.{New}
 use Rattle.ipc.specs.declared.answers.Creation.{Creation}
 use Rattle.ipc.specs.declared.answers.Sending.{Sending}
 use Rattle.ipc.specs.declared.answers.Receiving.{Receiving}
@@ -30,6 +31,7 @@ use Rattle.logread.specs.Little.{byteAt}
 use Rattle.operations.specs.Done.{Done, withChannels}
 use Rattle.operations.specs.Operands.{idAt, taskAt, messageAt}
 use Rattle.operations.specs.declared.Tables.{Tables}
+use Rattle.operations.specs.declared.channels.Fresh.{Fresh}
 
 -- ---- what a call's answer and table come to
 abbrev pub created : Tables → Creation → Done
@@ -62,6 +64,10 @@ noted t r = record { number = noteNumber (r .answer); values = []; tables = with
 -- every table fresh, the channel table of the sizes given
 abbrev pub allFresh : ℕ → ℕ → ℕ → Tables
 allFresh m e d = record { channels = freshOf (sizesOf m e d); rows = rows.freshTable; tasks = tasks.freshTable; irqs = irqs.freshTable }
+
+-- the same beside the answer of the channel table's own `new`
+abbrev pub freshBy : New → Fresh
+freshBy n = record { answer = n .answer; tables = record { channels = n .table; rows = rows.freshTable; tasks = tasks.freshTable; irqs = irqs.freshTable } }
 
 -- ---- the operations
 -- 0, new (m, e, d): every table fresh, or all kept as they were on 20

@@ -1,11 +1,12 @@
 // Operations 0, 1, 6 and 10: channels made and revoked, and a task that waits no more.
 ghost use mathlib.Core.Path.{_≡_};
+ghost use Rattle.ipc.specs.Make.{newOf};
 ghost use Rattle.ipc.specs.Sound.{Sound};
 ghost use Rattle.ipc.specs.Answers.{createValues, revokeValues, clearValues};
 ghost use Rattle.ipc.specs.declared.answers.CreateAnswer.the-variants.{Created};
 ghost use Rattle.operations.specs.Values.{held};
 ghost use Rattle.operations.specs.Done.{packed};
-ghost use Rattle.operations.specs.Channels.{createDone, revokeDone, clearDone, newDone};
+ghost use Rattle.operations.specs.Channels.{createDone, revokeDone, clearDone, newDone, freshBy};
 use crate::Outcome;
 use crate::Tables;
 use crate::values;
@@ -59,6 +60,30 @@ fn clear_values(a: ClearAnswer) -> Values
     }
 }
 
+// Tables that nothing happened to, and whether the channel table has the sizes asked for.
+pub struct Fresh {
+    pub answer: NewAnswer,
+    pub tables: Tables,
+}
+
+// What operation 0 makes, and where a replay starts.
+pub fn all_fresh(m: usize, e: usize, d: usize) -> Fresh
+    ensures { λ r. ⌜ r ≡ freshBy (newOf m e d) ⌝ }
+{
+    let made = ipc::new(m, e, d);
+    let answer = made.answer;
+    let channels = made.table;
+    Fresh {
+        answer,
+        tables: Tables {
+            channels,
+            rows: capslots::new(),
+            tasks: taskcap::new(),
+            irqs: irqcap::new(),
+        },
+    }
+}
+
 // 0: every table fresh, or all of them kept.
 pub fn op_new(t: Tables, log: &[u8]) -> Outcome
     ensures { λ r. ⌜ r ≡ packed (newDone (now (log .entry)) t) ⌝ }
@@ -68,7 +93,7 @@ pub fn op_new(t: Tables, log: &[u8]) -> Outcome
     let d = byte_at(log, 5) as usize;
     let v = values::none();
     let at = v.at;
-    let made = ipc::new(m, e, d);
+    let made = all_fresh(m, e, d);
     let answer = made.answer;
     let NewAnswer::Made = answer else {
         return Outcome {
@@ -78,17 +103,12 @@ pub fn op_new(t: Tables, log: &[u8]) -> Outcome
             tables: t,
         };
     };
-    let channels = made.table;
+    let tables = made.tables;
     Outcome {
         number: refusals::ACCEPTED,
         values: at,
         count: v.count,
-        tables: Tables {
-            channels,
-            rows: capslots::new(),
-            tasks: taskcap::new(),
-            irqs: irqcap::new(),
-        },
+        tables,
     }
 }
 

@@ -31,17 +31,12 @@ pub struct Part {
 pub fn start() -> Place
     ensures { λ r. ⌜ r ≡ startOf ⌝ }
 {
-    let made = ipc::new(32, 64, 8);
-    let channels = made.table;
+    let made = operations::channels::all_fresh(32, 64, 8);
+    let tables = made.tables;
     Place {
         offset: 0,
         done: 0,
-        tables: Tables {
-            channels,
-            rows: capslots::new(),
-            tasks: taskcap::new(),
-            irqs: irqcap::new(),
-        },
+        tables,
     }
 }
 

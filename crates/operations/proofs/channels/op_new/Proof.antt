@@ -3,8 +3,6 @@ use Rattle.operations.proofs.New.{new-refused, new-made}
 use borrow.Author.Needs.{needs}
 use Rattle.operations.proofs.channels.op_new.Statement.{statement}
 use Rattle.operations.proofs.channels.op_new.Tie as tie
-use Rattle.irqcap.proofs.new.Reads as new-reads′
-use Rattle.taskcap.proofs.new.Reads as new-reads′′
 
 byte-at-requires : tie.Need-byte-at-requires
 byte-at-requires c κs = search needs
@@ -27,8 +25,8 @@ cast-d c = search needs
 none-requires : tie.Need-none-requires
 none-requires c κs = search needs
 
-new-requires : tie.Need-new-requires
-new-requires c κs = search needs
+all-fresh-requires : tie.Need-all-fresh-requires
+all-fresh-requires c κs = search needs
 
 enum-told : tie.Need-enum-told
 enum-told c = search needs
@@ -37,21 +35,10 @@ enum-told-2 : tie.Need-enum-told-2
 enum-told-2 c = search needs
 
 returns : tie.Need-returns
-returns c =
-    new-refused _ _ (c .before .before .before .before .before .before .before .byte-at .ensures) (c .before .before .before .before .before .before .byte-at2 .ensures) (c .before .before .before .before .before .byte-at3 .ensures) (c .before .before .new .ensures) (c .before .before .before .before .none .ensures) (c .enum-told2 .given .1)
-
-new-requires-2 : tie.Need-new-requires-2
-new-requires-2 c κs = search needs
-
-new-requires-3 : tie.Need-new-requires-3
-new-requires-3 c κs = search needs
-
-new-requires-4 : tie.Need-new-requires-4
-new-requires-4 c κs = search needs
+returns c = new-refused _ _ (c .before .before .before .before .before .before .before .byte-at .ensures) (c .before .before .before .before .before .before .byte-at2 .ensures) (c .before .before .before .before .before .byte-at3 .ensures) (c .before .before .all-fresh .ensures) (c .before .before .before .before .none .ensures) (c .enum-told2 .given .1)
 
 returns-2 : tie.Need-returns-2
-returns-2 c =
-    new-made _ _ (c .before .before .before .before .before .before .before .before .before .before .before .byte-at .ensures) (c .before .before .before .before .before .before .before .before .before .before .byte-at2 .ensures) (c .before .before .before .before .before .before .before .before .before .byte-at3 .ensures) (c .before .before .before .before .before .before .new .ensures) (c .before .before .before .before .before .before .before .before .none .ensures) (c .before .before .before .before .enum-told .given .1) (c .before .before .new2 .ensures) (c .before .new3 .ensures) (c .new4 .ensures)
+returns-2 c = new-made _ _ (c .before .before .before .before .before .before .before .before .byte-at .ensures) (c .before .before .before .before .before .before .before .byte-at2 .ensures) (c .before .before .before .before .before .before .byte-at3 .ensures) (c .before .before .before .all-fresh .ensures) (c .before .before .before .before .before .none .ensures) (c .before .enum-told .given .1)
 
 pub op-new-spec : {M : Type 1} → statement M
 op-new-spec =
@@ -64,11 +51,8 @@ op-new-spec =
     byte-at-requires-3
     cast-d
     none-requires
-    new-requires
+    all-fresh-requires
     enum-told
     enum-told-2
     returns
-    new-requires-2
-    new-requires-3
-    new-requires-4
     returns-2)
