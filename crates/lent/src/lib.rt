@@ -1,0 +1,4 @@
+pub mod counts;
+
+pub use counts::note_authority_refusal;
+pub use counts::note_state_refusal;
