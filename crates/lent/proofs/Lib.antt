@@ -1,1 +1,3 @@
 pub mod Registering
+pub mod Gathering
+pub mod Agree

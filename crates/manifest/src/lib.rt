@@ -51,7 +51,7 @@ impl BindAnswer {
 }
 
 // What one entry slot comes to.
-enum Choice {
+pub enum Choice {
     Takes(Slot),
     Refuses(BindAnswer),
 }
@@ -76,7 +76,7 @@ fn refused(answer: BindAnswer) -> Binding
 }
 
 // What entry slot `slot` takes: `found` is the place of the held list at the index that it wants, and `held` the list's length.
-fn choose(want: Want, found: Slot, held: usize, pool: bool, slot: usize) -> Choice
+pub fn choose(want: Want, found: Slot, held: usize, pool: bool, slot: usize) -> Choice
     ensures { λ r. ⌜ r ≡ choiceFrom want found held pool slot ⌝ }
 {
     let index = want.index;
@@ -100,7 +100,7 @@ fn choose(want: Want, found: Slot, held: usize, pool: bool, slot: usize) -> Choi
 }
 
 // The four choices together: the first refusal among them, or the places that they take.
-fn in_order(a: Choice, b: Choice, c: Choice, d: Choice) -> Binding
+pub fn in_order(a: Choice, b: Choice, c: Choice, d: Choice) -> Binding
     ensures { λ r. ⌜ r ≡ inOrder a b c d ⌝ }
 {
     let first = match a {
