@@ -1,3 +1,4 @@
 pub mod Records
 pub mod InPlace
 pub mod Each
+pub mod FirstLent
