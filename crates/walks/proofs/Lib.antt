@@ -2,3 +2,4 @@ pub mod Records
 pub mod InPlace
 pub mod Each
 pub mod FirstLent
+pub mod StructLent
