@@ -46,6 +46,38 @@ fn values(answer: BindAnswer, slots: [Slot; 4]) {
     }
 }
 
+// An answer in figures: its number and the values that it shows, 0 where it has none.
+fn figures(answer: BindAnswer) -> [u64; 4] {
+    let number = answer.number() as u64;
+    match answer {
+        BindAnswer::Bound => [number, 0, 0, 0],
+        BindAnswer::NoSuchCapability { slot, index, held } => {
+            [number, slot as u64, index as u64, held as u64]
+        }
+        BindAnswer::PacketPoolRequired { slot, index } => [number, slot as u64, index as u64, 0],
+        BindAnswer::HeldVacant { slot, index } => [number, slot as u64, index as u64, 0],
+        BindAnswer::BadWord => [number, 0, 0, 0],
+    }
+}
+
+fn same_place(a: Slot, b: Slot) -> bool {
+    (a.present == b.present) & (a.id.raw == b.id.raw)
+}
+
+// Whether two bindings are one, field by field.
+pub(crate) fn same(a: Binding, b: Binding) -> bool {
+    let one = a.answer;
+    let other = b.answer;
+    let f = figures(one);
+    let g = figures(other);
+    let answers = (f[0] == g[0]) & (f[1] == g[1]) & (f[2] == g[2]) & (f[3] == g[3]);
+    let s = a.slots;
+    let t = b.slots;
+    let first = same_place(s[0], t[0]) & same_place(s[1], t[1]);
+    let second = same_place(s[2], t[2]) & same_place(s[3], t[3]);
+    answers & first & second
+}
+
 pub(crate) fn write(binding: Binding) {
     let answer = binding.answer;
     let slots = binding.slots;

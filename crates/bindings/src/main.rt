@@ -1,9 +1,14 @@
-// Reads cases of `bind` on standard input and writes the answer to each, one line a case. Damaged input, a case that is cut short or has
+// Reads cases of `bind` on standard input and writes the answer to each, one line a case, in which the form on words and the form on
+// slot records agree. Damaged input, a case that is cut short or has
 // a flag above 1, ends with `bad` and that case's offset.
+ghost use Prim.Native.Nat.{_≤_};
+ghost use lib.ListN.{length};
 use libc::STDIN_FILENO;
+use manifest::AgentEntry;
 
 mod case;
 mod line;
+mod slots;
 
 // What one turn found: a case of so many bytes, which was answered, or the input's end, or damage.
 enum Turn {
@@ -12,13 +17,30 @@ enum Turn {
     Damaged,
 }
 
+// Writes what bind answers to the words and, where they all read, to the records that they stand for: one line where the two agree. A
+// second one is expected nowhere.
+fn answer_both(entry: AgentEntry, held: &[u64])
+    requires { ⌜ length (now held) ≤ 255 ⌝ }
+{
+    let by_words = manifest::bind(entry, held);
+    line::write(by_words);
+    if cap::words_read(held) {
+        let by_slots = slots::bind(entry, slots::records(held), held.len());
+        if !line::same(by_words, by_slots) {
+            line::write(by_slots);
+        }
+    }
+}
+
 // Reads the held words and answers, or says that they are cut short.
-fn answer(head: [u8; case::HEAD], bytes: &mut [u8], held: &mut [u64]) -> bool {
+fn answer(head: [u8; case::HEAD], bytes: &mut [u8], held: &mut [u64]) -> bool
+    requires { ⌜ length (now held) ≤ 255 ⌝ }
+{
     if io::read_full(STDIN_FILENO, bytes) < bytes.len() {
         return false;
     }
     case::read_words(bytes, held);
-    line::write(manifest::bind(case::entry(head), held));
+    answer_both(case::entry(head), held);
     true
 }
 

@@ -39,7 +39,7 @@ slice-aggregate-answer-2 : tie.Need-slice-aggregate-answer-2
 slice-aggregate-answer-2 c = simp length-take (omega arith)
 
 answer-requires : tie.Need-answer-requires
-answer-requires c κs = search needs
+answer-requires c κs = simp length-take (omega arith)
 
 add-t19 : tie.Need-add-t19
 add-t19 c = search needs
