@@ -24,7 +24,7 @@ pub(crate) fn records(held: &[u64]) -> [Slot; MOST_HELD] {
     slots
 }
 
-pub(crate) fn bind(entry: AgentEntry, slots: [Slot; 255], n: usize) -> Binding
+pub(crate) fn bind(entry: AgentEntry, slots: [Slot; MOST_HELD], n: usize) -> Binding
     requires { ⌜ n ≤ 255 ⌝ }
     ensures { λ r. ⌜ r ≡ bindSlots entry (take n slots) ⌝ }
 {
