@@ -1,12 +1,11 @@
 -- The calls over references agree with those on words and on the whole table. Assumes nothing.
 use mathlib.Core.Path.{_≡_, refl}
-use mathlib.Core.Bool.{Bool, true, false}
-use mathlib.Core.List.{List, [], _∷_, map}
-use Prim.Native.Nat.{ℕ, _<_}
+use mathlib.Core.Bool.{true}
+use mathlib.Core.List.{List}
+use Prim.Native.Nat.{ℕ}
 use Rattle.laws.specs.Pick.{pick}
 use Rattle.cap.specs.Word.{wordsRead, slotsOf}
 use Rattle.ipc.specs.State.{withRefusals}
-use Rattle.ipc.specs.Counts.{noteAuthorityOf, noteStateOf}
 use Rattle.ipc.specs.Holds.{registerOf}
 use Rattle.ipc.specs.Border.{guarded, registerCall, noteAuthorityCall, noteStateCall}
 use Rattle.ipc.specs.declared.state.Table.{Table}

@@ -1,3 +1,4 @@
 pub mod Registering
 pub mod Gathering
 pub mod Agree
+pub mod AsWords

@@ -2,14 +2,12 @@
 use mathlib.Core.Path.{_≡_, refl, sym, ap, _∙_}
 use mathlib.Core.Bool.{Bool, true, false}
 use mathlib.Core.List.{List, [], _∷_}
-use Prim.Native.Nat.{ℕ}
-use lib.ListN.{length, length-set}
+use lib.ListN.{length-set}
 use Rattle.laws.specs.Pick.{pick}
 use Rattle.laws.proofs.Cases.{not-both}
 use Rattle.walks.specs.Over.{over}
 use Rattle.cap.specs.declared.slot.Slot.{Slot}
 use Rattle.ipc.specs.State.{Shape}
-use Rattle.ipc.specs.Sound.{Sound}
 use Rattle.ipc.specs.SoundTest.{soundTest}
 use Rattle.ipc.specs.Opening.{holdOf}
 use Rattle.ipc.specs.Holds.{registered, registeredAll}

@@ -1,6 +1,6 @@
 -- Document 01, "What must change shape": `bind` takes the held list also as a lent slice of slot records, without 21. Its rule is
 -- `bindSlots`, on which the word form rests too; here is how the walk of the records goes.
-use mathlib.Core.List.{List, [], _∷_}
+use mathlib.Core.List.{[], _∷_}
 use Prim.Native.Nat.{ℕ, _+_}
 use lib.Dec.{eqb, ltb}
 use lib.ListN.{getD}

@@ -17,7 +17,7 @@ struct Gathered {
     at: usize,
 }
 
-// No list is longer than a usize counts, which only the caller of the walk's steps knows.
+// The count stops where a usize does: no list is that long, but one turn does not know it.
 fn next(at: usize) -> usize
     ensures { λ r. ⌜ r ≡ nextOf at ⌝ }
 {

@@ -35,7 +35,7 @@ use denote.Triple.Entry.{onEntry}
 use denote.Triple.Spec.{Meets}
 use denote.Triple.Walked.{says, Stays, stay-ref, walkOf, goes-ref, ends-at, walked, walk-meets}
 use denote.Triple.Clauses.{Clauses, Ended, closing}
-use Rattle.walks.proofs.Records.{Kind, row, ty, D, Has, typed-as, nothing-asked, Takes1, calls1}
+use Rattle.walks.proofs.Records.{Kind, row, ty, D, typed-as, nothing-asked, Takes1, calls1}
 
 module _ (S : Kind) (G : D S → D S) (#g : Name) where
   abbrev ref : Ty
