@@ -18,13 +18,16 @@ use Rattle.lent.specs.declared.holds.Holding.{Holding}
 abbrev pub registerSlots : Table → List Slot → Registering
 registerSlots t slots = guarded t (record { answer = BadTable; table = t }) (record { answer = Registered; table = registeredAll t slots })
 
--- ---- how the walk goes: the table is tested once, each record of a sound one is registered, and the answer is made at the end
+-- ---- how the walk of the records goes
+-- the table is tested once
 abbrev pub begun : Table → Holding
 begun t = record { sound = soundTest t; table = t }
 
+-- each record of a sound table is registered
 unfoldable pub held : Holding → Slot → Holding
 held h s = pick (h .sound) (record { sound = true; table = registered (h .table) s }) h
 
+-- and the answer is made at the end
 unfoldable pub finished : Holding → Registering
 finished h = pick (h .sound) (record { answer = Registered; table = h .table }) (record { answer = BadTable; table = h .table })
 

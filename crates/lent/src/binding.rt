@@ -27,6 +27,7 @@ fn next(at: usize) -> usize
     at
 }
 
+// The record at the wanted index, once the walk is there.
 fn taken(want: Want, found: Slot, at: usize, slot: Slot) -> Slot
     ensures { λ r. ⌜ r ≡ takenOf want found at slot ⌝ }
 {
