@@ -8,6 +8,7 @@ pub mod Lives
 pub mod Return
 pub mod Refusals
 pub mod Public
+pub mod Joined
 pub mod ExamplesIds
 pub mod WaitsTurn
 pub mod WaitsCalls

@@ -10,3 +10,4 @@ pub mod Traffic
 pub mod Messages
 pub mod Edges
 pub mod Idle
+pub mod Joined
