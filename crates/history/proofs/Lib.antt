@@ -9,6 +9,9 @@ pub mod Return
 pub mod Refusals
 pub mod Public
 pub mod Joined
+pub mod Along
+pub mod Operations
+pub mod Lines
 pub mod ExamplesIds
 pub mod WaitsTurn
 pub mod WaitsCalls

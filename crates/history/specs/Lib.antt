@@ -11,3 +11,4 @@ pub mod Messages
 pub mod Edges
 pub mod Idle
 pub mod Joined
+pub mod Operations

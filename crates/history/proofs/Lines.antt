@@ -1,0 +1,119 @@
+-- What an operation's line shows is what its call answers, `operations-tell`. Assumes nothing.
+use mathlib.Core.Path.{_≡_, refl, sym, ap, subst, _∙_}
+use mathlib.Core.List.{List, [], _∷_}
+use Prim.Native.Nat.{ℕ, _<_}
+use native.Mathlib.Omega.{arith}
+use borrow.Author.Tests.{ne-eqb}
+use Rattle.laws.specs.Pick.{pick}
+use Rattle.capslots.specs.Table.{Shape}
+use Rattle.joined.specs.Answers.{spawnNumber, leaveNumber, leaveValues, giveNumber}
+use Rattle.joined.specs.Steps.{spawnOf, leaveOf, giveOf}
+use Rattle.joined.specs.declared.answers.SpawnAnswer as spawn
+use Rattle.joined.specs.declared.answers.LeaveAnswer as leave
+use Rattle.joined.specs.declared.answers.GiveAnswer as give
+use Rattle.logread.specs.Little.{byteAt}
+use Rattle.logread.specs.Lists.{listWords}
+use Rattle.logread.proofs.Numbers.{below}
+use Rattle.operations.specs.Apply.{allDone, unknownDone, applyOf}
+use Rattle.operations.specs.Channels.{createDone, sendDone, receiveDone, parkDone, queuedDone, revokeDone, holdersDone, clearDone, noteAuthorityDone, noteStateDone, countsDone}
+use Rattle.operations.specs.Done.{Done}
+use Rattle.operations.specs.Fours.{releaseDone, leaveDone}
+use Rattle.operations.specs.Holds.{registerDone}
+use Rattle.operations.specs.Joined.{spawnDone, giveDone}
+use Rattle.operations.specs.Operands.{idAt}
+use Rattle.operations.specs.declared.Tables.{Tables}
+use Rattle.history.specs.Calls.{Call, answer}
+use Rattle.history.specs.Numbers.{numberOf, valuesOf}
+use Rattle.history.specs.Joined.{ifAccepted, spawnCalls, leaveCalls, giveCalls, JoinedTold}
+use Rattle.history.specs.Operations.{allCalls, callsOf, Tells, OperationsTell}
+use Rattle.history.proofs.Joined.{joined-tell}
+use Rattle.history.proofs.Along.{Along, end, _▸_, along}
+
+module _ (log : List ℕ) (t : Tables) where
+  -- where calls are one call, the line tells its answer
+  abbrev Told : Done → List Call → Type 0
+  Told d cs = (c : Call) → cs ≡ c ∷ [] → Tells (t .channels) c d
+
+  none : (d : Done) → Told d []
+  none d c e = let z : _≡_ {A = ℕ} 0 1 = cc in absurd (omega arith)
+
+  one : (d : Done) (x : Call) → d .number ≡ numberOf (answer (t .channels) x) → d .values ≡ valuesOf (answer (t .channels) x) → Told d (x ∷ [])
+  one d x n v c e = subst (λ y. Tells (t .channels) y d) (let q : x ≡ c = cc in q) (record { number = n; values = v })
+
+  -- an accepted step makes its call
+  made : (d : Done) (n : ℕ) (x : Call) → n ≡ 0 → d .number ≡ numberOf (answer (t .channels) x) → d .values ≡ valuesOf (answer (t .channels) x) → Told d (ifAccepted n (x ∷ []))
+  unfolding ifAccepted pick
+  made d n x e a v = rw e (one d x a v)
+
+  -- and a refused one none
+  unmade : (d : Done) (n : ℕ) (cs : List Call) → (n ≡ 0 → ⊥) → Told d (ifAccepted n cs)
+  unfolding ifAccepted pick
+  unmade d n cs h = rw (ne-eqb n 0 h) (none d)
+
+  module _ (bytes : (i : ℕ) → byteAt log i < 256) (shape : Shape (t .rows)) where
+    abbrev told : JoinedTold (t .channels) (t .rows)
+    told = joined-tell (t .channels) (t .rows) shape
+
+    spawn-tells : (a : spawn.SpawnAnswer) → spawnOf (t .channels) (t .rows) (byteAt log 3) (listWords log 4) .answer ≡ a → Told (spawnDone log t) (spawnCalls (t .channels) (t .rows) (byteAt log 3) (listWords log 4))
+    unfolding spawnDone spawnCalls
+    spawn-tells spawn.the-variants.Spawned e =
+        let x = told .spawn (byteAt log 3) (listWords log 4) e in
+        made _ _ _ (ap spawnNumber e) (ap spawnNumber e ∙ ap numberOf (sym x)) (ap valuesOf (sym x))
+    spawn-tells spawn.the-variants.BadWord e = unmade _ _ _ (λ z. omega (arith, ap spawnNumber e))
+    spawn-tells spawn.the-variants.BadRow e = unmade _ _ _ (λ z. omega (arith, ap spawnNumber e))
+    spawn-tells spawn.the-variants.BadTable e = unmade _ _ _ (λ z. omega (arith, ap spawnNumber e))
+
+    leave-tells : (a : leave.LeaveAnswer) → leaveOf (t .channels) (t .rows) (byteAt log 3) .answer ≡ a → Told (leaveDone log t) (leaveCalls (t .channels) (t .rows) (byteAt log 3))
+    unfolding leaveDone leaveCalls
+    leave-tells leave.the-variants.Left e =
+        let x = told .leave (byteAt log 3) e in
+        made _ _ _ (ap leaveNumber e) (ap leaveNumber e ∙ ap numberOf (sym x))
+        (ap (λ a. leaveValues a (leaveOf (t .channels) (t .rows) (byteAt log 3) .waiters)) e ∙ ap valuesOf (sym x))
+    leave-tells leave.the-variants.BadRow e = unmade _ _ _ (λ z. omega (arith, ap leaveNumber e))
+    leave-tells leave.the-variants.BadTable e = unmade _ _ _ (λ z. omega (arith, ap leaveNumber e))
+
+    give-tells : (a : give.GiveAnswer) → giveOf (t .channels) (t .rows) (byteAt log 3) (byteAt log 4) (idAt log 5) .answer ≡ a → Told (giveDone log t) (giveCalls (t .channels) (t .rows) (byteAt log 3) (byteAt log 4) (idAt log 5))
+    unfolding giveDone giveCalls
+    give-tells give.the-variants.Given e =
+        let x = told .give (byteAt log 3) (byteAt log 4) (idAt log 5) (below log bytes 4 5) e in
+        made _ _ _ (ap giveNumber e) (ap giveNumber e ∙ ap numberOf (sym x)) (ap valuesOf (sym x))
+    give-tells give.the-variants.BadSlot e = unmade _ _ _ (λ z. omega (arith, ap giveNumber e))
+    give-tells give.the-variants.BadTable e = unmade _ _ _ (λ z. omega (arith, ap giveNumber e))
+
+    all-tell : Along Told (allDone log t) (allCalls log t)
+    unfolding answer createDone sendDone receiveDone parkDone queuedDone revokeDone registerDone releaseDone holdersDone clearDone noteAuthorityDone noteStateDone countsDone
+    all-tell =
+        none _ ▸
+        one _ _ refl refl ▸
+        one _ _ refl refl ▸
+        one _ _ refl refl ▸
+        one _ _ refl refl ▸
+        one _ _ refl refl ▸
+        one _ _ refl refl ▸
+        one _ _ refl refl ▸
+        one _ _ refl refl ▸
+        one _ _ refl refl ▸
+        one _ _ refl refl ▸
+        one _ _ refl refl ▸
+        one _ _ refl refl ▸
+        none _ ▸
+        none _ ▸
+        none _ ▸
+        none _ ▸
+        none _ ▸
+        none _ ▸
+        none _ ▸
+        none _ ▸
+        none _ ▸
+        none _ ▸
+        none _ ▸
+        spawn-tells _ refl ▸
+        leave-tells _ refl ▸
+        give-tells _ refl ▸
+        one _ _ refl refl ▸
+        end
+
+pub operations-tell : OperationsTell
+unfolding applyOf callsOf
+operations-tell o bytes t shape =
+    along (Told (o .bytes) t) (allDone (o .bytes) t) (allCalls (o .bytes) t) (unknownDone t) [] (all-tell (o .bytes) t bytes shape) (none (o .bytes) t _) (o .number)
