@@ -12,6 +12,7 @@ pub mod Joined
 pub mod Along
 pub mod Operations
 pub mod Lines
+pub mod LogIds
 pub mod ExamplesIds
 pub mod WaitsTurn
 pub mod WaitsCalls

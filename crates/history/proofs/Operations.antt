@@ -43,11 +43,11 @@ past [] = []
 past (a ∷ l) = l
 
 -- ---- an operation that is no accepted `new`
-goes-on : (w : World) (o : Operation) (t : Tables) → renews o ≡ false → follow w o t ≡ run w (callsOf o t)
+pub goes-on : (w : World) (o : Operation) (t : Tables) → renews o ≡ false → follow w o t ≡ run w (callsOf o t)
 unfolding follow pick
 goes-on w o t h = rw h
 
-other-number : (n : ℕ) (log : List ℕ) → renews (record { number = suc n; bytes = log }) ≡ false
+pub other-number : (n : ℕ) (log : List ℕ) → renews (record { number = suc n; bytes = log }) ≡ false
 other-number n log = rw (ne-eqb (suc n) 0 (λ e. omega arith))
 
 -- ---- the tables after an operation

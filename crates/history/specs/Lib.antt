@@ -12,3 +12,4 @@ pub mod Edges
 pub mod Idle
 pub mod Joined
 pub mod Operations
+pub mod LogIds

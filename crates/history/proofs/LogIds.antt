@@ -1,0 +1,80 @@
+-- Demand 3's first sentence in a log, `log-ids-keep`. Assumes nothing.
+use mathlib.Core.Path.{_≡_, refl, sym, ap, subst, _∙_}
+use mathlib.Core.Bool.{Bool, true, not}
+use mathlib.Core.List.{List, [], _∷_}
+use mathlib.Core.Logic.{_⊎_, inl, inr, ⊎-elim}
+use Prim.Native.Nat.{ℕ, suc, _+_, _<_}
+use native.Mathlib.Omega.{arith}
+use lib.Dec.{eqb}
+use Rattle.cap.specs.declared.CapId.{CapId}
+use Rattle.ipc.specs.Answers.{createValues}
+use Rattle.ipc.specs.Create.{createOf}
+use Rattle.ipc.specs.declared.state.Channel.{Channel}
+use Rattle.ipc.specs.declared.answers.CreateAnswer.{CreateAnswer}
+use Rattle.ipc.specs.declared.answers.CreateAnswer.the-variants.{Created, NoMailbox, NoEndpoint, BadTable}
+use Rattle.logread.specs.Little.{byteAt}
+use Rattle.operations.specs.Apply.{applyOf}
+use Rattle.operations.specs.Channels.{createDone}
+use Rattle.operations.specs.declared.Tables.{Tables}
+use Rattle.history.specs.Calls.{create, created, answer}
+use Rattle.history.specs.World.{World, run, step}
+use Rattle.history.specs.Ids.{Makes, IdOf, OpensOnly, Reach}
+use Rattle.history.specs.Operations.{Operation, doneBy, callsOf, Logged, operate, operated, beginning, Follows, lasting, callsOver}
+use Rattle.history.specs.LogIds.{creation, KeepsId, LogIdsKeep}
+use Rattle.history.proofs.Ids.{ids-keep}
+use Rattle.history.proofs.Operations.{goes-on, other-number, operate-follows, operated-follow, operations-run, logs-follow}
+
+-- ephemeral where the flag is not 0
+abbrev flag : List ℕ → Bool
+flag log = not (eqb (byteAt log 3) 0)
+
+-- the create of a log is the call
+creates : (s : Logged) (log : List ℕ) → operate s (creation log) .world ≡ step (s .world) (create (flag log))
+unfolding operate callsOf run
+creates s log = goes-on (s .world) (creation log) (s .tables) (other-number 0 log)
+
+-- two values are two ids
+record Shown (a : CreateAnswer) (x y : ℕ) : Type 0 where
+  ids : Channel
+  made : a ≡ Created ids
+  send : ids .send .raw ≡ x
+  recv : ids .recv .raw ≡ y
+
+shown : (a : CreateAnswer) (x y : ℕ) → createValues a ≡ x ∷ y ∷ [] → Shown a x y
+shown (Created ids) x y e = record { ids = ids; made = refl; send = cc; recv = cc }
+shown NoMailbox x y e = let z : _≡_ {A = ℕ} 0 1 = cc in absurd (omega arith)
+shown NoEndpoint x y e = let z : _≡_ {A = ℕ} 0 1 = cc in absurd (omega arith)
+shown BadTable x y e = let z : _≡_ {A = ℕ} 0 1 = cc in absurd (omega arith)
+
+create-shows : (log : List ℕ) (t : Tables) → doneBy (creation log) t .values ≡ createValues (createOf (t .channels) (flag log) .answer)
+unfolding applyOf createDone
+create-shows log t = refl
+
+module _ (s : Logged) (f : Follows s) (log : List ℕ) (x y : ℕ) (e : doneBy (creation log) (s .tables) .values ≡ x ∷ y ∷ []) where
+  abbrev n : ℕ
+  n = suc (s .world .made)
+
+  abbrev shows : Shown (createOf (s .tables .channels) (flag log) .answer) x y
+  shows = shown _ x y (sym (create-shows log (s .tables)) ∙ e)
+
+  makes : Makes (s .world) (flag log) n (shows .ids)
+  unfolding answer
+  makes = record { answers = rw (f .channels) (ap created (shows .made)); number = refl }
+
+  is-id : (c : CapId) → (c .raw ≡ x) ⊎ (c .raw ≡ y) → IdOf (shows .ids) c
+  is-id c = ⊎-elim (λ p. inl (ap (λ r. record { raw = r }) (p ∙ sym (shows .send)))) (λ p. inr (ap (λ r. record { raw = r }) (p ∙ sym (shows .recv))))
+
+  keeps : (later : List Operation) → lasting later ≡ true → let v = operated (operate s (creation log)) later in
+      v .world .made < n + 65535 → (c : CapId) → (c .raw ≡ x) ⊎ (c .raw ≡ y) → KeepsId v n c
+  keeps later lasts few c is =
+      let u = operate s (creation log) in
+      let q : operated u later .world ≡ run (step (s .world) (create (flag log))) (callsOver u later) = operations-run u later lasts ∙ ap (λ w. run w (callsOver u later)) (creates s log) in
+      let k = ids-keep (s .world) (f .reached) (flag log) n (shows .ids) makes (callsOver u later) (subst (λ (w : World). w .made < n + 65535) q few) c (is-id c is) in
+      record {
+        follows = operated-follow u later (operate-follows s (creation log) f);
+        opens = subst (λ w. OpensOnly w n c) (sym q) (k .0);
+        calls = subst (λ w. Reach w n c) (sym q) (k .1);
+      }
+
+pub log-ids-keep : LogIdsKeep
+log-ids-keep before log x y e = keeps (operated beginning before) (logs-follow before) log x y e
