@@ -9,6 +9,7 @@ pub mod Return
 pub mod Refusals
 pub mod Public
 pub mod Joined
+pub mod Sequences
 pub mod Along
 pub mod Operations
 pub mod Lines

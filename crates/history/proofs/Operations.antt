@@ -1,7 +1,7 @@
 -- The log's operations are runs of calls: `operations-tell`, `logs-follow` and `operations-run`. Assumes nothing.
 use mathlib.Core.Path.{_≡_, refl, sym, ap, subst, _∙_}
 use mathlib.Core.Bool.{Bool, true, false, not}
-use mathlib.Core.List.{List, [], _∷_, _++_}
+use mathlib.Core.List.{List, [], _∷_}
 use Prim.Native.Nat.{ℕ, zero, suc}
 use native.Mathlib.Omega.{arith}
 use borrow.Author.Tests.{ne-eqb, not-true}
@@ -12,11 +12,7 @@ use Rattle.capslots.specs.Table.{Shape}
 use Rattle.capslots.proofs.Places.{shape-fresh}
 use Rattle.capslots.proofs.Calls.{seed-shape, install-shape, drain-shape, transfer-shape}
 use Rattle.ipc.specs.Make.{inRange}
-use Rattle.joined.specs.declared.answers.Spawning.{Spawning}
-use Rattle.joined.specs.declared.answers.Leaving.{Leaving}
-use Rattle.joined.specs.declared.answers.Giving.{Giving}
 use Rattle.joined.specs.Steps.{spawnOf, leaveOf, giveOf}
-use Rattle.joined.proofs.Ways.{spawn-ways, leave-ways, give-ways}
 use Rattle.logread.specs.Little.{byteAt}
 use Rattle.logread.specs.Lists.{listWords}
 use Rattle.operations.specs.Operands.{idAt}
@@ -30,12 +26,13 @@ use Rattle.operations.specs.Mints.{taskMintDone, taskLookupDone, taskEndDone, i
 use Rattle.operations.specs.Rows.{getDone, holdsDone, seedDone, installDone, transferDone}
 use Rattle.operations.specs.declared.Tables.{Tables}
 use Rattle.history.specs.Calls.{Call, after}
-use Rattle.history.specs.World.{World, run, step, start, Reached, fresh}
+use Rattle.history.specs.World.{World, run, start, Reached, fresh}
 use Rattle.history.specs.Joined.{spawnCalls, leaveCalls, giveCalls}
 use Rattle.history.specs.Operations.{Operation, allCalls, callsOf, sizesAt, renews, Logged, follow, operate, operated, beginning, Follows, LogsFollow, lasting, callsOver, OperationsRun}
 use Rattle.history.proofs.Kept.{reached-run}
 use Rattle.history.proofs.Along.{Along, end, _▸_, along}
 use Rattle.history.proofs.Joined.{one-call, joined-runs}
+use Rattle.history.proofs.Sequences.{spawn-shape, leave-shape, give-shape, run-on}
 
 -- a list but for its head
 abbrev past : {A : Type 0} → List A → List A
@@ -64,15 +61,14 @@ module _ (w : World) (log : List ℕ) (t : Tables) (reached : Reached w) (same :
   unfolding run
   none d e r = record { table = same ∙ e; rows = r }
 
-  -- the joined steps' rows
+  -- the joined steps
   spawn-leaves : Leaves (spawnDone log t) (spawnCalls (t .channels) (t .rows) (byteAt log 3) (listWords log 4))
   unfolding spawnDone
   spawn-leaves =
       record {
         table = subst (λ u. run w (spawnCalls u (t .rows) (byteAt log 3) (listWords log 4)) .table ≡ spawnOf u (t .rows) (byteAt log 3) (listWords log 4) .channels) same
             (joined-runs w reached (t .rows) shape .spawn (byteAt log 3) (listWords log 4));
-        rows = spawn-ways (t .channels) (t .rows) (λ (x : Spawning). Shape (x .rows)) (byteAt log 3) (listWords log 4) (λ _ _. shape)
-            (λ _ _. seed-shape (t .rows) (byteAt log 3) (listWords log 4) shape);
+        rows = spawn-shape (t .channels) (t .rows) shape (byteAt log 3) (listWords log 4);
       }
 
   leave-leaves : Leaves (leaveDone log t) (leaveCalls (t .channels) (t .rows) (byteAt log 3))
@@ -81,8 +77,7 @@ module _ (w : World) (log : List ℕ) (t : Tables) (reached : Reached w) (same :
       record {
         table = subst (λ u. run w (leaveCalls u (t .rows) (byteAt log 3)) .table ≡ leaveOf u (t .rows) (byteAt log 3) .channels) same
             (joined-runs w reached (t .rows) shape .leave (byteAt log 3));
-        rows = leave-ways (t .channels) (t .rows) (λ (x : Leaving). Shape (x .rows)) (byteAt log 3) (λ _ _. shape)
-            (λ _. drain-shape (t .rows) (byteAt log 3) shape);
+        rows = leave-shape (t .channels) (t .rows) shape (byteAt log 3);
       }
 
   give-leaves : Leaves (giveDone log t) (giveCalls (t .channels) (t .rows) (byteAt log 3) (byteAt log 4) (idAt log 5))
@@ -91,8 +86,7 @@ module _ (w : World) (log : List ℕ) (t : Tables) (reached : Reached w) (same :
       record {
         table = subst (λ u. run w (giveCalls u (t .rows) (byteAt log 3) (byteAt log 4) (idAt log 5)) .table ≡ giveOf u (t .rows) (byteAt log 3) (byteAt log 4) (idAt log 5) .channels) same
             (joined-runs w reached (t .rows) shape .give (byteAt log 3) (byteAt log 4) (idAt log 5));
-        rows = give-ways (t .channels) (t .rows) (λ (x : Giving). Shape (x .rows)) (byteAt log 3) (byteAt log 4) (idAt log 5) (λ _ _. shape)
-            (λ _. install-shape (t .rows) (byteAt log 3) (byteAt log 4) (idAt log 5) shape);
+        rows = give-shape (t .channels) (t .rows) shape (byteAt log 3) (byteAt log 4) (idAt log 5);
       }
 
   -- every operation but `new`
@@ -166,11 +160,6 @@ pub logs-follow : LogsFollow
 logs-follow os = operated-follow beginning os (record { reached = fresh _ refl; channels = refl; rows = shape-fresh })
 
 -- ---- without an accepted `new`, one run
-run-on : (w : World) (cs ds : List Call) → run w (cs ++ ds) ≡ run (run w cs) ds
-unfolding run
-run-on w [] ds = refl
-run-on w (c ∷ cs) ds = run-on (step w c) cs ds
-
 pub operations-run : OperationsRun
 unfolding operated callsOver lasting operate run
 operations-run s [] h = refl

@@ -26,7 +26,7 @@ use Rattle.history.specs.Public.{publicAnswer, publicAfter, PublicCalls}
 use Rattle.history.proofs.Kept.{reached-sound}
 
 -- on a sound table the border serves the rule
-served : {A : Type 0} (t : Table) (refused rule : A) → Sound t → guarded t refused rule ≡ rule
+pub served : {A : Type 0} (t : Table) (refused rule : A) → Sound t → guarded t refused rule ≡ rule
 unfolding guarded pick
 served t refused rule s = rw (test-of t s)
 

@@ -11,5 +11,6 @@ pub mod Messages
 pub mod Edges
 pub mod Idle
 pub mod Joined
+pub mod Sequences
 pub mod Operations
 pub mod LogIds
