@@ -14,6 +14,7 @@ pub mod Along
 pub mod Operations
 pub mod Lines
 pub mod LogIds
+pub mod Log
 pub mod ExamplesIds
 pub mod WaitsTurn
 pub mod WaitsCalls

@@ -14,3 +14,4 @@ pub mod Joined
 pub mod Sequences
 pub mod Operations
 pub mod LogIds
+pub mod Log
