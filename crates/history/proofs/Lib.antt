@@ -15,6 +15,7 @@ pub mod Operations
 pub mod Lines
 pub mod LogIds
 pub mod Log
+pub mod Prints
 pub mod ExamplesIds
 pub mod WaitsTurn
 pub mod WaitsCalls
