@@ -31,3 +31,5 @@ pub mod ExampleMessages
 pub mod Edges
 pub mod Stands
 pub mod Idle
+pub mod ExamplesJoined
+pub mod ExamplesLog

@@ -1,0 +1,52 @@
+-- That joined steps are not for nothing: a task waits on a channel that one row holds, and the leave of that row names it. Assumes nothing.
+use mathlib.Core.Path.{_≡_, refl}
+use mathlib.Core.Bool.{true}
+use mathlib.Core.List.{List, [], _∷_}
+use Rattle.laws.specs.Pick as picks
+use Rattle.laws.specs.Every as everys
+use Rattle.laws.specs.Place as places
+use Rattle.cap.specs.Id.{idOf}
+use Rattle.cap.specs.Slot.{vacant, holding}
+use Rattle.cap.specs.Word as words
+use Rattle.capslots.specs.Table.{freshTable}
+use Rattle.capslots.specs.Rows as rowcalls
+use Rattle.mint.specs.Generation as generations
+use Rattle.ipc.specs.State.{nobody}
+use Rattle.ipc.specs.Make.{freshOf, sizesOf}
+use Rattle.ipc.specs.Create.{createOf}
+use Rattle.ipc.specs.Receive.{parkOf}
+use Rattle.ipc.specs.Holds as holds
+use Rattle.ipc.specs.Opening as openings
+use Rattle.ipc.specs.Counts as raises
+use Rattle.ipc.specs.declared.state.TaskId.{TaskId}
+use Rattle.ipc.specs.declared.answers.CreateAnswer.the-variants.{Created}
+use Rattle.ipc.specs.declared.answers.ParkAnswer.the-variants.{Parked}
+use Rattle.ipc.specs.declared.answers.RegisterAnswer.the-variants.{Registered}
+use Rattle.ipc.specs.declared.answers.ReleaseAnswer.the-variants.{Released}
+use Rattle.joined.specs.Steps as joins
+use Rattle.history.specs.Calls.{Call, create, park, register, release, created, parked, registered, released, answer, after}
+use Rattle.history.specs.World.{ifCreated, onCreation, step, answers, start}
+use Rattle.history.specs.Joined.{ifAccepted, spawnCalls, leaveCalls}
+use Rattle.history.specs.Sequences.{Deed, call, spawn, leave, afterDeed, deedCalls, deedsCalls}
+
+abbrev task : TaskId
+task = record { slot = 2; epoch = 0 }
+
+-- an ephemeral channel, a row that holds its send id (as a word, 4,294,967,296 + 65,536), a task that parks; the row leaves, and once more
+abbrev deeds : List Deed
+deeds = call (create true) ∷ spawn 0 (4295032832 ∷ []) ∷ call (park (idOf 1 1) task) ∷ leave 0 ∷ leave 54 ∷ []
+
+-- the leave of a row from 54 up is refused and makes no call
+abbrev calls : List Call
+calls = create true ∷ register (4295032832 ∷ []) ∷ park (idOf 1 1) task ∷ release (holding (idOf 0 1)) vacant vacant vacant ∷ []
+
+pub joined-calls : deedsCalls (record { channels = freshOf (sizesOf 1 2 1); rows = freshTable }) deeds ≡ calls
+unfolding deedsCalls deedCalls afterDeed spawnCalls leaveCalls ifAccepted joins.spawnOf joins.leaveOf rowcalls.seedOf rowcalls.drainOf words.readWord words.orVacant everys.every picks.pick
+joined-calls = refl
+
+pub joined-answers :
+    answers (start (sizesOf 1 2 1)) calls
+    ≡ (created (Created (record { send = idOf 0 1; recv = idOf 1 1 })) ∷ registered Registered ∷ parked Parked
+    ∷ released Released (record { present = true; task = task } ∷ nobody ∷ nobody ∷ nobody ∷ []) ∷ [])
+unfolding answers step answer after onCreation ifCreated createOf parkOf holds.registerOf holds.registeredAll holds.registered holds.releaseOf holds.releasedAll holds.released words.readWord words.orVacant words.slotsOf everys.every places.found places.lowestFree places.lowest picks.pick openings.opened openings.openingOf openings.openOf openings.holdOf openings.openHold generations.nextGeneration raises.raised
+joined-answers = refl

@@ -1,0 +1,87 @@
+-- That joined steps and operations are calls, by a log and a sequence that are computed. Assumes nothing.
+use mathlib.Core.Path.{_≡_, refl}
+use mathlib.Core.Bool.{true}
+use mathlib.Core.List.{List, [], _∷_}
+use Prim.Native.Nat.{ℕ}
+use lib.ListN.{drop}
+use Rattle.laws.specs.Pick as picks
+use Rattle.laws.specs.Place as places
+use Rattle.cap.specs.Id.{idOf}
+use Rattle.mint.specs.Generation as generations
+use Rattle.ipc.specs.State.{nobody}
+use Rattle.ipc.specs.Make.{sizesOf}
+use Rattle.ipc.specs.Create.{createOf}
+use Rattle.ipc.specs.Send.{sendOf}
+use Rattle.ipc.specs.Receive.{recvOf, parkOf}
+use Rattle.ipc.specs.Observe.{queuedOf}
+use Rattle.ipc.specs.Opening as openings
+use Rattle.ipc.specs.Counts as raises
+use Rattle.ipc.specs.Revoke as revocations
+use Rattle.ipc.specs.declared.state.Message.{Message}
+use Rattle.ipc.specs.declared.state.TaskId.{TaskId}
+use Rattle.ipc.specs.declared.answers.CreateAnswer.the-variants.{Created}
+use Rattle.ipc.specs.declared.answers.SendAnswer.the-variants.{Sent}
+use Rattle.ipc.specs.declared.answers.RecvAnswer.the-variants.{BadCap}
+use Rattle.ipc.specs.declared.answers.ParkAnswer.the-variants.{Given, Cancelled}
+use Rattle.ipc.specs.declared.answers.RevokeAnswer.the-variants.{Revoked}
+use Rattle.ipc.specs.declared.answers.RefusalsAnswer.the-variants.{Counts}
+use Rattle.logread.specs.Little as numbers
+use Rattle.logread.specs.Read as reads
+use Rattle.oplog.specs.Step as steps
+use Rattle.history.specs.Calls.{Call, create, send, receive, park, revoke, counts, created, sent, received, parked, revoked, counted, answer, after}
+use Rattle.history.specs.World.{ifCreated, onCreation, step, answers, start}
+use Rattle.history.specs.Operations.{Operation, callsOf, follow, operate, lasting, callsOver, beginning}
+use Rattle.history.specs.Log.{recordsIn, recordsOf}
+
+-- document 01's log
+abbrev bytes : List ℕ
+bytes =
+    75 ∷ 67 ∷ 0 ∷ 2 ∷ 4 ∷ 1 ∷
+    75 ∷ 67 ∷ 1 ∷ 1 ∷
+    75 ∷ 67 ∷ 4 ∷ 1 ∷ 0 ∷ 1 ∷ 0 ∷ 2 ∷ 0 ∷ 0 ∷ 0 ∷
+    75 ∷ 67 ∷ 2 ∷ 0 ∷ 0 ∷ 1 ∷ 0 ∷ 7 ∷ 0 ∷ 0 ∷ 0 ∷ 1 ∷ 0 ∷ 0 ∷ 0 ∷ 0 ∷ 0 ∷ 0 ∷ 0 ∷ 2 ∷ 0 ∷ 0 ∷ 0 ∷ 0 ∷ 0 ∷ 0 ∷ 0 ∷
+    75 ∷ 67 ∷ 4 ∷ 1 ∷ 0 ∷ 1 ∷ 0 ∷ 2 ∷ 0 ∷ 0 ∷ 0 ∷
+    75 ∷ 67 ∷ 6 ∷ 1 ∷ 0 ∷ 1 ∷ 0 ∷
+    75 ∷ 67 ∷ 3 ∷ 1 ∷ 0 ∷ 1 ∷ 0 ∷
+    75 ∷ 67 ∷ 27 ∷
+    []
+
+abbrev m : Message
+m = record { tag = 7; a = 1; b = 2 }
+
+abbrev task : TaskId
+task = record { slot = 2; epoch = 0 }
+
+-- its `new` starts afresh, and the rest is one run
+abbrev anew : Operation
+anew = record { number = 0; bytes = bytes }
+
+abbrev rest : List Operation
+rest = recordsOf (drop 6 bytes)
+
+pub sample-records : recordsOf bytes ≡ anew ∷ rest
+unfolding recordsIn steps.reading steps.operandsOk reads.readOf reads.lengths reads.lengthOf picks.pick
+sample-records = refl
+
+pub sample-start : operate beginning anew .world ≡ start (sizesOf 2 4 1)
+unfolding operate follow picks.pick
+sample-start = refl
+
+pub sample-lasts : lasting rest ≡ true
+unfolding lasting recordsIn steps.reading steps.operandsOk reads.readOf reads.lengths reads.lengthOf picks.pick
+sample-lasts = refl
+
+abbrev calls : List Call
+calls = create true ∷ park (idOf 1 1) task ∷ send (idOf 0 1) m ∷ park (idOf 1 1) task ∷ revoke (idOf 1 1) ∷ receive (idOf 1 1) ∷ counts ∷ []
+
+pub sample-calls : callsOver (operate beginning anew) rest ≡ calls
+unfolding callsOver operate callsOf recordsIn steps.reading steps.operandsOk reads.readOf reads.lengths reads.lengthOf numbers.littleAt picks.pick
+sample-calls = refl
+
+-- and their answers are the lines that the document prints
+pub sample-answers :
+    answers (start (sizesOf 2 4 1)) calls
+    ≡ (created (Created (record { send = idOf 0 1; recv = idOf 1 1 })) ∷ parked Cancelled ∷ sent (Sent nobody) ∷ parked (Given m) ∷ revoked (Revoked nobody) ∷ received BadCap
+    ∷ counted (Counts (record { authority = 1; full = 0; state = 0 })) ∷ [])
+unfolding answers step answer after onCreation ifCreated createOf sendOf recvOf parkOf queuedOf revocations.revokeOf revocations.killed revocations.wiped places.found places.lowestFree places.lowest picks.pick openings.opened openings.openingOf openings.openOf openings.eitherOf openings.openEither openings.anyRightOf openings.openAny generations.nextGeneration raises.raised
+sample-answers = refl
