@@ -14,6 +14,8 @@ pub mod Along
 pub mod Operations
 pub mod Lines
 pub mod LogIds
+pub mod LogMessages
+pub mod LogWaits
 pub mod Log
 pub mod Prints
 pub mod ExamplesIds

@@ -14,4 +14,6 @@ pub mod Joined
 pub mod Sequences
 pub mod Operations
 pub mod LogIds
+pub mod LogMessages
+pub mod LogWaits
 pub mod Log
