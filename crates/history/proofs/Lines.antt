@@ -1,10 +1,13 @@
--- What an operation's line shows is what its call answers, `operations-tell`. Assumes nothing.
+-- An operation makes one call at most, `one-at-most`, and its line shows what that answers, `operations-tell`. Assumes nothing.
 use mathlib.Core.Path.{_≡_, refl, sym, ap, subst, _∙_}
 use mathlib.Core.List.{List, [], _∷_}
-use Prim.Native.Nat.{ℕ, _<_}
+use Prim.Native.Nat.{ℕ, _≤_, _<_}
 use native.Mathlib.Omega.{arith}
 use borrow.Author.Tests.{ne-eqb}
+use lib.Dec.{lit≤, eqb}
+use lib.ListN.{length}
 use Rattle.laws.specs.Pick.{pick}
+use Rattle.laws.proofs.Cases.{all-pick}
 use Rattle.capslots.specs.Table.{Shape}
 use Rattle.joined.specs.Answers.{spawnNumber, leaveNumber, leaveValues, giveNumber}
 use Rattle.joined.specs.Steps.{spawnOf, leaveOf, giveOf}
@@ -25,7 +28,7 @@ use Rattle.operations.specs.declared.Tables.{Tables}
 use Rattle.history.specs.Calls.{Call, answer}
 use Rattle.history.specs.Numbers.{numberOf, valuesOf}
 use Rattle.history.specs.Joined.{ifAccepted, spawnCalls, leaveCalls, giveCalls, JoinedTold}
-use Rattle.history.specs.Operations.{allCalls, callsOf, Tells, OperationsTell}
+use Rattle.history.specs.Operations.{allCalls, callsOf, OneAtMost, Tells, OperationsTell}
 use Rattle.history.proofs.Joined.{joined-tell}
 use Rattle.history.proofs.Along.{Along, end, _▸_, along}
 
@@ -113,6 +116,49 @@ module _ (log : List ℕ) (t : Tables) where
         one _ _ refl refl ▸
         end
 
+-- ---- one at most
+short : (n : ℕ) (c : Call) → length (ifAccepted n (c ∷ [])) ≤ 1
+unfolding ifAccepted
+short n c = all-pick (λ (l : List Call). length l ≤ 1) (eqb n 0) (c ∷ []) [] (λ _. lit≤ tt) (λ _. lit≤ tt)
+
+all-short : (log : List ℕ) (t : Tables) → Along (λ (cs ds : List Call). length cs ≤ 1) (allCalls log t) (allCalls log t)
+unfolding spawnCalls leaveCalls giveCalls
+all-short log t =
+    lit≤ tt ▸
+    lit≤ tt ▸
+    lit≤ tt ▸
+    lit≤ tt ▸
+    lit≤ tt ▸
+    lit≤ tt ▸
+    lit≤ tt ▸
+    lit≤ tt ▸
+    lit≤ tt ▸
+    lit≤ tt ▸
+    lit≤ tt ▸
+    lit≤ tt ▸
+    lit≤ tt ▸
+    lit≤ tt ▸
+    lit≤ tt ▸
+    lit≤ tt ▸
+    lit≤ tt ▸
+    lit≤ tt ▸
+    lit≤ tt ▸
+    lit≤ tt ▸
+    lit≤ tt ▸
+    lit≤ tt ▸
+    lit≤ tt ▸
+    lit≤ tt ▸
+    short _ _ ▸
+    short _ _ ▸
+    short _ _ ▸
+    lit≤ tt ▸
+    end
+
+pub one-at-most : OneAtMost
+unfolding callsOf
+one-at-most o t = along (λ (cs ds : List Call). length cs ≤ 1) (allCalls (o .bytes) t) (allCalls (o .bytes) t) [] [] (all-short (o .bytes) t) (lit≤ tt) (o .number)
+
+-- ---- the line
 pub operations-tell : OperationsTell
 unfolding applyOf callsOf
 operations-tell o bytes t shape =

@@ -22,7 +22,7 @@ use Rattle.history.specs.Ids.{Makes, IdOf, OpensOnly, Reach}
 use Rattle.history.specs.Operations.{Operation, doneBy, callsOf, Logged, operate, operated, beginning, Follows, lasting, callsOver}
 use Rattle.history.specs.LogIds.{creation, KeepsId, LogIdsKeep}
 use Rattle.history.proofs.Ids.{ids-keep}
-use Rattle.history.proofs.Operations.{goes-on, other-number, operate-follows, operated-follow, operations-run, logs-follow}
+use Rattle.history.proofs.Operations.{goes-on, other-number, operations-follow, operated-follow, operations-run, logs-follow}
 
 -- ephemeral where the flag is not 0
 abbrev flag : List ℕ → Bool
@@ -71,7 +71,7 @@ module _ (s : Logged) (f : Follows s) (log : List ℕ) (x y : ℕ) (e : doneBy (
       let q : operated u later .world ≡ run (step (s .world) (create (flag log))) (callsOver u later) = operations-run u later lasts ∙ ap (λ w. run w (callsOver u later)) (creates s log) in
       let k = ids-keep (s .world) (f .reached) (flag log) n (shows .ids) makes (callsOver u later) (subst (λ (w : World). w .made < n + 65535) q few) c (is-id c is) in
       record {
-        follows = operated-follow u later (operate-follows s (creation log) f);
+        follows = operated-follow u later (operations-follow s (creation log) f);
         opens = subst (λ w. OpensOnly w n c) (sym q) (k .0);
         calls = subst (λ w. Reach w n c) (sym q) (k .1);
       }

@@ -1,4 +1,4 @@
--- The log's operations are runs of calls: `operations-tell`, `logs-follow` and `operations-run`. Assumes nothing.
+-- The log's operations are runs of calls: `operations-follow`, `logs-follow` and `operations-run`. Assumes nothing.
 use mathlib.Core.Path.{_≡_, refl, sym, ap, subst, _∙_}
 use mathlib.Core.Bool.{Bool, true, false, not}
 use mathlib.Core.List.{List, [], _∷_}
@@ -28,7 +28,7 @@ use Rattle.operations.specs.declared.Tables.{Tables}
 use Rattle.history.specs.Calls.{Call, after}
 use Rattle.history.specs.World.{World, run, start, Reached, fresh}
 use Rattle.history.specs.Joined.{spawnCalls, leaveCalls, giveCalls}
-use Rattle.history.specs.Operations.{Operation, allCalls, callsOf, sizesAt, renews, Logged, follow, operate, operated, beginning, Follows, LogsFollow, lasting, callsOver, OperationsRun}
+use Rattle.history.specs.Operations.{Operation, allCalls, callsOf, sizesAt, renews, Logged, follow, operate, operated, beginning, Follows, OperationsFollow, LogsFollow, lasting, callsOver, OperationsRun}
 use Rattle.history.proofs.Kept.{reached-run}
 use Rattle.history.proofs.Along.{Along, end, _▸_, along}
 use Rattle.history.proofs.Joined.{one-call, joined-runs}
@@ -148,13 +148,13 @@ module _ (w : World) (log : List ℕ) (t : Tables) (reached : Reached w) (same :
   by-number zero = begins-anew
   by-number (suc n) = subst (λ v. Follows (record { world = v; tables = applyOf (suc n) log t .tables })) (sym (goes-on w _ t (other-number n log))) (by-calls n)
 
-pub operate-follows : (s : Logged) (o : Operation) → Follows s → Follows (operate s o)
-operate-follows s o f = by-number (s .world) (o .bytes) (s .tables) (f .reached) (f .channels) (f .rows) (o .number)
+pub operations-follow : OperationsFollow
+operations-follow s o f = by-number (s .world) (o .bytes) (s .tables) (f .reached) (f .channels) (f .rows) (o .number)
 
 pub operated-follow : (s : Logged) (os : List Operation) → Follows s → Follows (operated s os)
 unfolding operated
 operated-follow s [] f = f
-operated-follow s (o ∷ os) f = operated-follow (operate s o) os (operate-follows s o f)
+operated-follow s (o ∷ os) f = operated-follow (operate s o) os (operations-follow s o f)
 
 pub logs-follow : LogsFollow
 logs-follow os = operated-follow beginning os (record { reached = fresh _ refl; channels = refl; rows = shape-fresh })

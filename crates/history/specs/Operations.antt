@@ -4,9 +4,9 @@
 use mathlib.Core.Path.{_≡_}
 use mathlib.Core.Bool.{Bool, true, _&&_, not}
 use mathlib.Core.List.{List, [], _∷_, _++_}
-use Prim.Native.Nat.{ℕ, _+_, _<_}
+use Prim.Native.Nat.{ℕ, _≤_, _<_}
 use lib.Dec.{eqb}
-use lib.ListN.{getD}
+use lib.ListN.{getD, length}
 use Rattle.laws.specs.Pick.{pick}
 use Rattle.laws.specs.Refusals as no
 use Rattle.capslots.specs.Table.{Shape}
@@ -71,13 +71,17 @@ allCalls log t =
 unfoldable pub callsOf : Operation → Tables → List Call
 callsOf o t = getD (allCalls (o .bytes) t) (o .number) []
 
+-- none makes two
+abbrev pub OneAtMost : Type 0
+OneAtMost = (o : Operation) (t : Tables) → length (callsOf o t) ≤ 1
+
 -- ---- the line
 -- the number and the values that it shows are those of the call's answer
 pub record Tells (t : Table) (c : Call) (d : Done) : Type 0 where
   pub number : d .number ≡ numberOf (answer t c)
   pub values : d .values ≡ valuesOf (answer t c)
 
--- so it is for every operation that makes a call; none makes two
+-- so it is for every operation that makes a call
 abbrev pub OperationsTell : Type 0
 OperationsTell =
     (o : Operation) → ((i : ℕ) → byteAt (o .bytes) i < 256) → (t : Tables) → Shape (t .rows) →
@@ -96,7 +100,7 @@ pub record Logged : Type 0 where
   pub world : World
   pub tables : Tables
 
--- the world after an operation
+-- the world after an operation: one start afresh where it is an accepted `new`, else the run of its calls
 unfoldable pub follow : World → Operation → Tables → World
 follow w o t = pick (renews o) (start (sizesAt (o .bytes))) (run w (callsOf o t))
 
@@ -117,6 +121,10 @@ pub record Follows (s : Logged) : Type 0 where
   pub channels : s .world .table ≡ s .tables .channels
   pub rows : Shape (s .tables .rows)
 
+abbrev pub OperationsFollow : Type 0
+OperationsFollow = (s : Logged) (o : Operation) → Follows s → Follows (operate s o)
+
+-- at any time of a log, from its start on
 abbrev pub LogsFollow : Type 0
 LogsFollow = (os : List Operation) → Follows (operated beginning os)
 
