@@ -62,8 +62,10 @@ fn turn(s: Turned, first: Channel) -> Turned {
     let last = made(answer);
     let between = creation.table;
     let mut opened = s.opened;
-    if (opens(between, first.send) | opens(between, first.recv)) & (opened < CLOSED) {
-        opened += 1;
+    if opens(between, first.send) | opens(between, first.recv) {
+        if opened < CLOSED {
+            opened += 1;
+        }
     }
     let revoked = ipc::revoke_channel(between, last.send);
     let table = revoked.table;
