@@ -1,5 +1,5 @@
 // Calls in a loop, for measuring: the first byte of the input picks the loop, and the sum of what came out is printed, so that no
-// loop can be left out. `bench/run` times it beside the Rust's.
+// loop can be left out. `bench/calls` times it beside the Rust's.
 use cap::CapId;
 use ipc::answers::RecvAnswer;
 use ipc::state::Message;
