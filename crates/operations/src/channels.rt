@@ -18,6 +18,7 @@ use ipc::answers::CreateAnswer;
 use ipc::answers::NewAnswer;
 use ipc::answers::RevokeAnswer;
 use ipc::state::Channel;
+use ipc::state::Sizes;
 use ipc::state::TaskId;
 use laws::refusals;
 use logread::byte_at;
@@ -66,11 +67,12 @@ pub struct Fresh {
     pub tables: Tables,
 }
 
-// What operation 0 makes, and where a replay starts.
-pub fn all_fresh(m: usize, e: usize, d: usize) -> Fresh
-    ensures { λ r. ⌜ r ≡ freshBy (newOf m e d) ⌝ }
+// What operation 0 makes, and where a replay starts. The sizes come as a struct, which the optimiser sees no constants in: it then leaves
+// this a call of its own. Taken into its callers, it has every copy of the tables split into single fields there, and a replay takes more than twice as long.
+pub fn all_fresh(sizes: Sizes) -> Fresh
+    ensures { λ r. ⌜ r ≡ freshBy (newOf (sizes .mailboxes) (sizes .endpoints) (sizes .depth)) ⌝ }
 {
-    let made = ipc::new(m, e, d);
+    let made = ipc::new(sizes.mailboxes, sizes.endpoints, sizes.depth);
     let answer = made.answer;
     let channels = made.table;
     Fresh {
@@ -88,12 +90,17 @@ pub fn all_fresh(m: usize, e: usize, d: usize) -> Fresh
 pub fn op_new(t: Tables, log: &[u8]) -> Outcome
     ensures { λ r. ⌜ r ≡ packed (newDone (now (log .entry)) t) ⌝ }
 {
-    let m = byte_at(log, 3) as usize;
-    let e = byte_at(log, 4) as usize;
-    let d = byte_at(log, 5) as usize;
+    let mailboxes = byte_at(log, 3) as usize;
+    let endpoints = byte_at(log, 4) as usize;
+    let depth = byte_at(log, 5) as usize;
+    let sizes = Sizes {
+        mailboxes,
+        endpoints,
+        depth,
+    };
     let v = values::none();
     let at = v.at;
-    let made = all_fresh(m, e, d);
+    let made = all_fresh(sizes);
     let answer = made.answer;
     let NewAnswer::Made = answer else {
         return Outcome {

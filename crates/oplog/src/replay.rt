@@ -5,6 +5,7 @@ ghost use Rattle.oplog.specs.Replay.{lastLine, lastOf, replayOf};
 ghost use Rattle.oplog.specs.Text.{startOf};
 use crate::StepAnswer;
 use crate::inner;
+use ipc::state::Sizes;
 use laws::refusals;
 use line::Written;
 use operations::Tables;
@@ -31,7 +32,12 @@ pub struct Part {
 pub fn start() -> Place
     ensures { λ r. ⌜ r ≡ startOf ⌝ }
 {
-    let made = operations::channels::all_fresh(32, 64, 8);
+    let sizes = Sizes {
+        mailboxes: 32,
+        endpoints: 64,
+        depth: 8,
+    };
+    let made = operations::channels::all_fresh(sizes);
     let tables = made.tables;
     Place {
         offset: 0,

@@ -7,20 +7,20 @@ use Rattle.operations.proofs.channels.op_new.Tie as tie
 byte-at-requires : tie.Need-byte-at-requires
 byte-at-requires c κs = search needs
 
-cast-m : tie.Need-cast-m
-cast-m c = search needs
+cast-mailboxes : tie.Need-cast-mailboxes
+cast-mailboxes c = search needs
 
 byte-at-requires-2 : tie.Need-byte-at-requires-2
 byte-at-requires-2 c κs = search needs
 
-cast-e : tie.Need-cast-e
-cast-e c = search needs
+cast-endpoints : tie.Need-cast-endpoints
+cast-endpoints c = search needs
 
 byte-at-requires-3 : tie.Need-byte-at-requires-3
 byte-at-requires-3 c κs = search needs
 
-cast-d : tie.Need-cast-d
-cast-d c = search needs
+cast-depth : tie.Need-cast-depth
+cast-depth c = search needs
 
 none-requires : tie.Need-none-requires
 none-requires c κs = search needs
@@ -45,11 +45,11 @@ op-new-spec =
     tie.close
     (tie.spec
     byte-at-requires
-    cast-m
+    cast-mailboxes
     byte-at-requires-2
-    cast-e
+    cast-endpoints
     byte-at-requires-3
-    cast-d
+    cast-depth
     none-requires
     all-fresh-requires
     enum-told
