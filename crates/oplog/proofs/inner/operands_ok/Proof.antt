@@ -1,8 +1,38 @@
-use Rattle.laws.proofs.Cases.{cases}
+use mathlib.Core.Path.{_≡_, refl}
+use mathlib.Core.Bool.{Bool, true, false, _||_}
+use mathlib.Core.List.{List}
+use Prim.Native.Nat.{ℕ}
+use lib.Dec.{eqb}
+use borrow.Author.Tests.{ne-eqb}
+use Rattle.laws.specs.Pick.{pick}
+use Rattle.laws.proofs.Cases.{cases, no, not-both}
+use Rattle.logread.specs.Lists.{listOk}
 use Rattle.oplog.specs.Step.{operandsOk}
 use borrow.Author.Needs.{needs}
 use Rattle.oplog.proofs.inner.operands_ok.Statement.{statement}
 use Rattle.oplog.proofs.inner.operands_ok.Tie as tie
+
+-- f is the test of a list from a place on, x says that it starts at 3, y at 4
+by-list : (x y : Bool) (f : ℕ → Bool) → x || y ≡ true → f (pick x 3 4) ≡ pick x (f 3) (pick y (f 4) true)
+unfolding pick
+by-list true y f e = refl
+by-list false true f e = refl
+by-list false false f e = absurd (not-both false e refl)
+
+no-list : (x y : Bool) (a b : Bool) → x || y ≡ false → true ≡ pick x a (pick y b true)
+unfolding pick
+no-list true y a b e = absurd (not-both true refl e)
+no-list false true a b e = absurd (not-both true refl e)
+no-list false false a b e = refl
+
+listed : (op : ℕ) (log : List ℕ) → eqb op 1 ≡ false → (eqb op 7 || eqb op 8) || (eqb op 15 || eqb op 24) ≡ true
+    → listOk log (pick (eqb op 7 || eqb op 8) 3 4) ≡ operandsOk op log
+unfolding operandsOk
+listed op log n e = no _ n (by-list _ _ (listOk log) e)
+
+others : (op : ℕ) (log : List ℕ) → eqb op 1 ≡ false → (eqb op 7 || eqb op 8) || (eqb op 15 || eqb op 24) ≡ false → true ≡ operandsOk op log
+unfolding operandsOk
+others op log n e = no _ n (no-list _ _ _ _ e)
 
 byte-at-requires : tie.Need-byte-at-requires
 byte-at-requires c κs = search needs
@@ -14,23 +44,17 @@ returns : tie.Need-returns
 unfolding operandsOk
 returns c = rw (c .flag-ok .ensures, c .before .byte-at .ensures) (search cases)
 
+list-at-requires : tie.Need-list-at-requires
+list-at-requires c κs = search needs
+
 list-ok-requires : tie.Need-list-ok-requires
 list-ok-requires c κs = search needs
 
 returns-2 : tie.Need-returns-2
-unfolding operandsOk
-returns-2 c = rw (c .list-ok .ensures) (search cases)
-
-list-ok-requires-2 : tie.Need-list-ok-requires-2
-list-ok-requires-2 c κs = search needs
+returns-2 c = rw (c .list-ok .ensures, c .before .list-at .ensures) (listed _ _ (ne-eqb _ _ (c .before .before .before .if1 .left)) (c .before .before .if2 .taken))
 
 returns-3 : tie.Need-returns-3
-unfolding operandsOk
-returns-3 c = rw (c .list-ok2 .ensures) (search cases)
-
-returns-4 : tie.Need-returns-4
-unfolding operandsOk
-returns-4 c = search cases
+returns-3 c = others _ _ (ne-eqb _ _ (c .before .if1 .left)) (c .if2 .left)
 
 pub operands-ok-spec : {M : Type 1} → statement M
 operands-ok-spec =
@@ -39,8 +63,7 @@ operands-ok-spec =
     byte-at-requires
     flag-ok-requires
     returns
+    list-at-requires
     list-ok-requires
     returns-2
-    list-ok-requires-2
-    returns-3
-    returns-4)
+    returns-3)
