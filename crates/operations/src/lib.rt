@@ -51,8 +51,8 @@ fn unknown(t: Tables) -> Outcome
 
 // The operation of this number, its operands in the record at the log's start.
 //
-// Operations 1, 4 and 7 may hand the tables on just as they came. They get a copy of their own, for the optimiser's sake: otherwise it copies the tables
-// at the start of every operation, and a replay takes a third longer.
+// Operations 1, 4 and 7 may hand the tables on just as they came. They get a copy of their own for the optimiser's sake: else it copies
+// the tables at the start of every operation, and a replay takes a third longer.
 pub fn apply(op: u8, t: Tables, log: &[u8]) -> Outcome
     requires { ⌜ Sound (t .channels) ⌝ }
     ensures { λ r. ⌜ r ≡ packed (applyOf op (now (log .entry)) t) ⌝ }

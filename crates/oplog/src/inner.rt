@@ -25,8 +25,8 @@ fn list_at(op: u8) -> usize
     4
 }
 
-// Refusal 25: the flag of create, and the lists of register, release, seed and spawn. One call tests all lists: with one more way through
-// here the optimiser no longer sees that `step` may hand its tables on to `apply` without a copy, and a replay takes half as long again.
+// Refusal 25: the flag of create, and the lists of register, release, seed and spawn. One call tests all lists for the optimiser's sake:
+// with one more way through here it has `step` copy the tables before it hands them to `apply`, and a replay takes half as long again.
 fn operands_ok(op: u8, log: &[u8]) -> bool
     ensures { λ r. ⌜ r ≡ operandsOk op (now (log .entry)) ⌝ }
 {
