@@ -1,13 +1,13 @@
 -- The parts that a replay puts into the buffers that it is lent are, one after the other, the log's text. Assumes nothing.
 use mathlib.Core.Path.{_≡_, refl, sym, ap, _∙_}
-use mathlib.Core.Bool.{Bool, true, false, _&&_}
-use mathlib.Core.List.{List, [], _++_}
+use mathlib.Core.Bool.{true}
+use mathlib.Core.List.{List, _++_}
 use Prim.Native.Nat.{ℕ, zero, suc, _+_, _-_, _<_, _≤_}
 use native.Mathlib.Omega.{arith}
-use lib.Dec.{ltb, leb, eqb, lit≤}
+use lib.Dec.{ltb, eqb}
 use lib.ListN.{length, take, drop, length-drop}
 use lib.Seq.{drop-drop}
-use borrow.Author.Tests.{lt-ltb, le-ltb, le-leb, eq-eqb, ne-eqb, eqb-true, eqb-false, ltb-true, ltb-false}
+use borrow.Author.Tests.{lt-ltb, le-ltb, le-leb, ne-eqb, eqb-true, eqb-false, ltb-true, ltb-false}
 use Rattle.laws.specs.Pick.{pick}
 use Rattle.laws.specs.Refusals as no
 use Rattle.laws.proofs.Cases.{all-pick, not-both}
@@ -24,7 +24,6 @@ use Rattle.oplog.specs.Step.{stepNumber, writing, stepOf, stepOut}
 use Rattle.oplog.specs.Run.{Ended, runFrom, runOf}
 use Rattle.oplog.specs.Text.{most, textFrom, textAt, startOf, replayText}
 use Rattle.oplog.specs.Replay.{reachable, Filled, filled, lastLine, lastOf, placeOf, endingOf, ranOf, replayOf, Placed, partOf, Prints, last, next}
-use Rattle.oplog.specs.declared.StepAnswer.{StepAnswer}
 use Rattle.oplog.specs.declared.StepAnswer.the-variants.{Took, NoRoom}
 use Rattle.oplog.specs.declared.replay.Place.{Place}
 use Rattle.oplog.proofs.Runs.{used, step-kept}
@@ -57,12 +56,12 @@ run-counted all (suc k) rest done out at t h =
     (λ _. (omega arith, omega arith))
 
 -- ---- the last line
-module _ (out : List ℕ) (at number offset : ℕ) (p : Place) (w : at ≤ length out) where
+module _ (out : List ℕ) (at number offset : ℕ) (p : Place) where
   abbrev text : List ℕ
   text = lastLine number offset (p .done)
 
   -- what is in the buffer, and the line if it is left
-  record Closes (f : Filled) : Type 0 where
+  pub record Closes (f : Filled) : Type 0 where
     pub place : f .part .place ≡ p
     pub took : f .part .answer ≡ Took → partOf f ≡ take at out ++ text
     pub left : f .part .answer ≡ NoRoom → partOf f ≡ take at out
@@ -72,7 +71,7 @@ module _ (out : List ℕ) (at number offset : ℕ) (p : Place) (w : at ≤ lengt
   by-writing (Upto n) e = record { place = refl; took = λ _. upto-stands out at text n e; left = λ z. absurd (let y = ap stepNumber z in omega arith) }
   by-writing Crowded e = record { place = refl; took = λ z. absurd (let y = ap stepNumber z in omega arith); left = λ _. ap (λ (l : List ℕ). take at l) (no-room-keeps out at text e) }
 
-  closes : Closes (lastOf out at number offset p)
+  pub closes : Closes (lastOf out at number offset p)
   unfolding lastOf
   closes = by-writing (putOf out at text) refl
 
@@ -125,7 +124,7 @@ module _ (log : List ℕ) (p : Place) (h : Placed log p) (out : List ℕ) where
 
   long : most < length log → Continues (lastOf out 0 no.tooLong most p)
   long l =
-      let c = closes out 0 no.tooLong most p (omega arith) in
+      let c = closes out 0 no.tooLong most p in
       record {
         took = λ e. c .took e ∙ sym (long-text p l);
         left = λ e. ap (λ (x : List ℕ). x ++ textAt log (lastOf out 0 no.tooLong most p .part .place)) (c .left e) ∙ long-text (lastOf out 0 no.tooLong most p .part .place) l ∙ sym (long-text p l);
@@ -184,7 +183,7 @@ module _ (log : List ℕ) (p : Place) (h : Placed log p) (out : List ℕ) where
     closed : (stepNumber (e .answer .answer) ≡ no.noRoom → ⊥) → Continues (lastOf (e .buffer) (e .answer .at) (stepNumber (e .answer .answer)) (p .offset + e .answer .offset) (placeOf (p .offset) (e .answer)))
     unfolding leftOf pick
     closed n =
-        let c = closes (e .buffer) (e .answer .at) (stepNumber (e .answer .answer)) (p .offset + e .answer .offset) (placeOf (p .offset) (e .answer)) (ran .within) in
+        let c = closes (e .buffer) (e .answer .at) (stepNumber (e .answer .answer)) (p .offset + e .answer .offset) (placeOf (p .offset) (e .answer)) in
         let x : take (e .answer .at) (e .buffer) ++ lastLine (stepNumber (e .answer .answer)) (p .offset + e .answer .offset) (e .answer .done) ≡ textAt log p =
         rw (ne-eqb (stepNumber (e .answer .answer)) no.noRoom n) at (ran .says) in
         record {

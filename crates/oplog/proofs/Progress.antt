@@ -1,17 +1,15 @@
 -- A part of a replay that ends for want of room has taken a record, if its buffer has 315 bytes or more: so the parts come to an end.
 -- Assumes nothing.
-use mathlib.Core.Path.{_≡_, refl, sym, ap, _∙_}
-use mathlib.Core.Bool.{Bool, true, false}
-use mathlib.Core.List.{List, []}
+use mathlib.Core.Path.{_≡_, refl, ap, _∙_}
+use mathlib.Core.List.{List}
 use Prim.Native.Nat.{ℕ, zero, suc, _+_, _-_, _<_, _≤_}
 use native.Mathlib.Omega.{arith}
 use lib.Dec.{ltb, eqb}
-use lib.ListN.{length, take, drop, length-drop}
-use borrow.Author.Tests.{eqb-true, eqb-false, ltb-true, ltb-false}
+use lib.ListN.{length, drop, length-drop}
+use borrow.Author.Tests.{eqb-true}
 use Rattle.laws.specs.Pick.{pick}
 use Rattle.laws.specs.Refusals as no
 use Rattle.laws.proofs.Cases.{all-pick}
-use Rattle.line.specs.Line.{endOf, badOf}
 use Rattle.line.specs.Put.{written, putOf, writtenNumber}
 use Rattle.line.specs.declared.Written.{Written}
 use Rattle.line.specs.declared.Written.the-variants.{Upto, NoRoom as Crowded}
@@ -26,11 +24,11 @@ use Rattle.oplog.specs.Step.{stepNumber, operandsOk, reading, writing, t
 use Rattle.oplog.specs.Run.{Ended, runFrom}
 use Rattle.oplog.specs.Text.{most}
 use Rattle.oplog.specs.Replay.{reachable, Filled, filled, lastLine, lastOf, placeOf, endingOf, ranOf, replayOf}
-use Rattle.oplog.specs.declared.StepAnswer.{StepAnswer}
-use Rattle.oplog.specs.declared.StepAnswer.the-variants.{Took, Short, BadMark, BadOp, BadOperand, NoRoom, BadTable}
+use Rattle.oplog.specs.declared.StepAnswer.the-variants.{Took, Short, BadMark, BadOp, BadOperand, NoRoom}
 use Rattle.oplog.specs.declared.Stepped.{Stepped}
 use Rattle.oplog.specs.declared.replay.Place.{Place}
 use Rattle.oplog.proofs.Runs.{used}
+use Rattle.oplog.proofs.Printed.{closes}
 
 -- ---- a text that fits is written
 fits-written : (out : List ℕ) (at : ℕ) (text : List ℕ) → at + length text ≤ length out → putOf out at text ≡ Crowded → ⊥
@@ -53,15 +51,6 @@ module _ (out : List ℕ) (at number offset : ℕ) (p : Place) (h : at + 46 ≤ 
   last-room : lastOf out at number offset p .part .answer ≡ NoRoom → ⊥
   unfolding lastOf
   last-room = by-written (putOf out at line) refl
-
--- its place is the one given
-last-place : (out : List ℕ) (at number offset : ℕ) (p : Place) → lastOf out at number offset p .part .place ≡ p
-unfolding lastOf writing
-last-place out at number offset p = by-written-place (putOf out at (lastLine number offset (p .done)))
-  where
-    by-written-place : (r : Written) → writing r (filled NoRoom at p (written out at (lastLine number offset (p .done)))) (λ n. filled Took n p (written out at (lastLine number offset (p .done)))) .part .place ≡ p
-    by-written-place (Upto n) = refl
-    by-written-place Crowded = refl
 
 -- ---- a step's line has room where 315 bytes are left
 module _ (log out : List ℕ) (number at : ℕ) (t : Tables) (h : at + 315 ≤ length out) where
@@ -153,7 +142,7 @@ module _ (log out : List ℕ) (p : Place) (h : 315 ≤ length out) where
       let at-start : e .answer .at ≡ 0 = u .0 in
       let long : length (e .buffer) ≡ length out = u .1 in
       absurd (last-room (e .buffer) (e .answer .at) _ _ (placeOf (p .offset) (e .answer)) (omega arith) a)
-  closes-on (suc n) z a = rw (last-place (e .buffer) (e .answer .at) (stepNumber (e .answer .answer)) (p .offset + e .answer .offset) (placeOf (p .offset) (e .answer))) (omega arith)
+  closes-on (suc n) z a = rw (closes (e .buffer) (e .answer .at) (stepNumber (e .answer .answer)) (p .offset + e .answer .offset) (placeOf (p .offset) (e .answer)) .place) (omega arith)
 
   pub moves-on : Onward (replayOf log out p)
   unfolding replayOf endingOf

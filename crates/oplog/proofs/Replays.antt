@@ -1,10 +1,10 @@
 -- The ways of a replay over a lent buffer: a place that is refused, a log that is too long, no room, the last line. Assumes nothing.
-use mathlib.Core.Path.{_≡_, refl, sym, ap, _∙_}
+use mathlib.Core.Path.{_≡_, refl}
 use mathlib.Core.Bool.{Bool, true, false, _&&_, not}
 use mathlib.Core.List.{List}
 use Prim.Native.Nat.{ℕ, zero, suc, _+_, _-_, _<_, _≤_}
 use native.Mathlib.Omega.{arith}
-use lib.Dec.{leb, ltb, eqb}
+use lib.Dec.{leb}
 use lib.ListN.{length, take, drop}
 use borrow.Author.Tests.{lt-ltb, le-ltb, eq-eqb, ne-eqb, not-true, not-false, leb-true}
 use Rattle.laws.specs.Pick.{pick}
@@ -17,7 +17,7 @@ use Rattle.line.specs.Put.{written, putOf}
 use Rattle.line.specs.declared.Written.{Written}
 use Rattle.line.specs.declared.Written.the-variants.{Upto, NoRoom as Crowded}
 use Rattle.operations.specs.declared.Tables.{Tables}
-use Rattle.oplog.specs.Step.{stepNumber, writing, stepOf, stepOut}
+use Rattle.oplog.specs.Step.{stepNumber, writing}
 use Rattle.oplog.specs.Run.{Ended, runFrom, runOf}
 use Rattle.oplog.specs.Text.{most}
 use Rattle.oplog.specs.Replay.{reachable, lastLine, lastOf, placeOf, endingOf, ranOf, replayOf}

@@ -1,22 +1,21 @@
 -- What a run puts into its buffer, and what is left to print where it ended, are the text of its log. Assumes nothing.
 use mathlib.Core.Path.{_≡_, refl, sym, ap, _∙_}
-use mathlib.Core.Bool.{Bool, true, false}
-use mathlib.Core.List.{List, [], _++_, append-assoc}
+use mathlib.Core.List.{List, _++_, append-assoc}
 use Prim.Native.Nat.{ℕ, zero, suc, _+_, _-_, _<_, _≤_}
 use native.Mathlib.Omega.{arith}
-use lib.Dec.{ltb, eqb}
+use lib.Dec.{eqb}
 use lib.ListN.{length, take, drop, length-drop}
 use lib.Seq.{drop-drop}
-use borrow.Author.Tests.{eq-eqb, ne-eqb}
+use borrow.Author.Tests.{ne-eqb}
 use Rattle.laws.specs.Pick.{pick}
 use Rattle.laws.specs.Refusals as no
 use Rattle.operations.specs.declared.Tables.{Tables}
-use Rattle.oplog.specs.Step.{stepNumber, refusedStep, stepOf, stepOut}
+use Rattle.oplog.specs.Step.{stepNumber, stepOf, stepOut}
 use Rattle.oplog.specs.Run.{Ended, ended, runFrom}
 use Rattle.oplog.specs.Text.{Said, saidOf, textFrom}
 use Rattle.oplog.specs.Replay.{lastLine}
 use Rattle.oplog.specs.declared.StepAnswer.{StepAnswer}
-use Rattle.oplog.specs.declared.StepAnswer.the-variants.{Took, NoRoom}
+use Rattle.oplog.specs.declared.StepAnswer.the-variants.{NoRoom}
 use Rattle.oplog.specs.declared.Stepped.{Stepped}
 use Rattle.oplog.proofs.Runs.{finish, turn, refuse}
 use Rattle.oplog.proofs.Replays.{is-end, is-bad}

@@ -3,13 +3,11 @@ use mathlib.Core.Path.{_≡_, refl, sym, ap, _∙_}
 use mathlib.Core.List.{List}
 use Prim.Native.Nat.{ℕ, zero, suc, _+_, _-_, _<_, _≤_}
 use native.Mathlib.Omega.{arith}
-use lib.Dec.{ltb, eqb}
 use lib.ListN.{length, take, drop, length-drop}
 use lib.Seq.{take-all}
 use borrow.Author.Tests.{lt-ltb, le-ltb, eq-eqb, ne-eqb}
 use Rattle.laws.specs.Pick.{pick}
 use Rattle.laws.proofs.Cases.{all-pick}
-use Rattle.line.specs.Put.{putOf}
 use Rattle.line.specs.declared.Written.{Written}
 use Rattle.line.specs.declared.Written.the-variants.{Upto, NoRoom as Crowded}
 use Rattle.logread.specs.Read.{readOf}
@@ -21,7 +19,7 @@ use Rattle.operations.proofs.Applied.{apply-kept}
 use Rattle.oplog.specs.Step.{stepNumber, reading, writing, stepOf, stepOut}
 use Rattle.oplog.specs.Run.{Ended, ended, runFrom}
 use Rattle.oplog.specs.declared.StepAnswer.{StepAnswer}
-use Rattle.oplog.specs.declared.StepAnswer.the-variants.{Took, Short, BadMark, BadOp, BadOperand, NoRoom, BadTable}
+use Rattle.oplog.specs.declared.StepAnswer.the-variants.{Took, Short, BadMark, BadOp}
 use Rattle.oplog.specs.declared.Stepped.{Stepped}
 use Rattle.oplog.specs.declared.Ran.{Ran}
 

@@ -1,10 +1,9 @@
 -- The ways of a step: each fault, a line without room, a record taken. Assumes nothing.
-use mathlib.Core.Path.{_≡_, refl, sym, ap, _∙_}
-use mathlib.Core.Bool.{Bool, true, false}
+use mathlib.Core.Path.{_≡_, refl, ap}
+use mathlib.Core.Bool.{true, false}
 use mathlib.Core.List.{List, [], _∷_}
 use Prim.Native.Nat.{ℕ, zero, suc, _≤_}
 use native.Mathlib.Nat.{not-suc-le-zero, le-of-suc-le-suc}
-use native.Mathlib.Omega.{arith}
 use lib.ListN.{length, take}
 use Rattle.laws.specs.Pick.{pick}
 use Rattle.line.specs.Line.{lineOf}
@@ -13,15 +12,14 @@ use Rattle.line.specs.declared.Written.{Written}
 use Rattle.line.specs.declared.Written.the-variants.{Upto, NoRoom as Crowded}
 use Rattle.logread.specs.Read.{readOf}
 use Rattle.logread.specs.declared.Read as read
-use Rattle.operations.specs.Done.{Done, packed}
+use Rattle.operations.specs.Done.{packed}
 use Rattle.operations.specs.Values.{padded}
 use Rattle.operations.specs.Apply.{applyOf}
 use Rattle.operations.specs.declared.Tables.{Tables}
 use Rattle.operations.specs.declared.Outcome.{Outcome}
 use Rattle.operations.proofs.Applied.{apply-few}
 use Rattle.oplog.specs.Step.{operandsOk, reading, writing, textOf, refusedStep, stepOf, stepOut}
-use Rattle.oplog.specs.declared.StepAnswer.{StepAnswer}
-use Rattle.oplog.specs.declared.StepAnswer.the-variants.{Took, Short, BadMark, BadOp, BadOperand, NoRoom, BadTable}
+use Rattle.oplog.specs.declared.StepAnswer.the-variants.{Took, Short, BadMark, BadOp, BadOperand, NoRoom}
 use Rattle.oplog.specs.declared.Stepped.{Stepped}
 
 -- the values that are shown are those that the operation gave

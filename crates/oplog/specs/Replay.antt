@@ -11,7 +11,6 @@ use Rattle.ipc.specs.Sound.{Sound}
 use Rattle.ipc.specs.SoundTest.{soundTest}
 use Rattle.line.specs.Line.{endOf, badOf}
 use Rattle.line.specs.Put.{written, putOf}
-use Rattle.line.specs.declared.Written.{Written}
 use Rattle.oplog.specs.Step.{stepNumber, writing}
 use Rattle.oplog.specs.Run.{Ended, runOf}
 use Rattle.oplog.specs.Text.{most}

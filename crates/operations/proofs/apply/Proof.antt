@@ -4,7 +4,7 @@ use mathlib.Core.List.{List}
 use Prim.Native.Nat.{ℕ, _≤_}
 use lib.ListN.{List·getD-eq-default}
 use Rattle.operations.specs.Apply.{applyOf, allDone, unknownDone}
-use Rattle.operations.specs.Done.{Done, packed}
+use Rattle.operations.specs.Done.{packed}
 use Rattle.operations.specs.declared.Tables.{Tables}
 use Rattle.operations.specs.declared.Outcome.{Outcome}
 use Rattle.operations.proofs.Matches.{past}

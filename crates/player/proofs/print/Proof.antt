@@ -1,9 +1,8 @@
 -- `player::print` meets its contract. Assumes nothing.
 use borrow.Author.Needs.{needs}
-use Rattle.oplog.specs.Step.{stepNumber}
 use lib.Dec.{eqb}
 use lib.Seq.{length-take-le}
-use mathlib.Core.Path.{_≡_, refl, sym, ap, _∙_}
+use mathlib.Core.Path.{_≡_, refl, sym}
 use mathlib.Core.Bool.{Bool, true, _&&_}
 use mathlib.Core.List.{List}
 use Prim.Native.Nat.{ℕ, suc, _-_, _<_, _≤_}

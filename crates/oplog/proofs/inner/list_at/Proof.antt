@@ -1,6 +1,5 @@
 -- `oplog::inner::list_at` meets its contract. Assumes nothing.
 use Rattle.laws.proofs.Cases.{cases}
-use borrow.Author.Needs.{needs}
 use Rattle.oplog.proofs.inner.list_at.Statement.{statement}
 use Rattle.oplog.proofs.inner.list_at.Tie as tie
 

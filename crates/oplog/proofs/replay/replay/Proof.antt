@@ -1,9 +1,8 @@
 -- `oplog::replay::replay` meets its contract. Assumes nothing.
-use mathlib.Core.List.{List}
-use Prim.Native.Nat.{ℕ, _+_, _-_, _≤_, _<_}
+use Prim.Native.Nat.{_+_, _-_, _≤_, _<_}
 use lib.ListN.{length, take, drop}
 use native.Mathlib.Omega.{arith}
-use mathlib.Core.Path.{_≡_, sym, _∙_}
+use mathlib.Core.Path.{sym, _∙_}
 use Rattle.laws.proofs.Lists.{unmapped}
 use Rattle.ipc.specs.State.{Shape}
 use Rattle.ipc.proofs.Decide.{sound-of}
