@@ -12,7 +12,7 @@ use Rattle.ipc.specs.Views.{queueOf}
 use Rattle.ipc.specs.declared.state.Message.{Message}
 use Rattle.history.specs.Calls.{Call, send}
 use Rattle.history.specs.World.{World, step, run, Reached}
-use Rattle.history.specs.Channels.{Houses}
+use Rattle.history.specs.Channels.{LivesIn}
 use Rattle.history.specs.Traffic.{accepted, given, revokes, allAccepted, allGiven, Spares, none, more}
 use Rattle.history.specs.Messages.{AcceptedBehind, Once, GivenOnce, GivenInTurn, InOrder, WaitsItsTurn}
 use Rattle.history.proofs.Tidy.{Tidy, step-grows, run-grows, reached-tidy}
@@ -20,13 +20,13 @@ use Rattle.history.proofs.Turns.{turn}
 use Rattle.history.proofs.Givings.{only-gives}
 
 -- ---- over a run
-in-order : (w : World) → Tidy w → (n k : ℕ) → Houses w n k → {cs : List Call} → Spares w n cs →
-    Houses (run w cs) n k × (allGiven w n cs ++ queueOf (run w cs .table) k ≡ queueOf (w .table) k ++ allAccepted w n cs)
+in-order : (w : World) → Tidy w → (n k : ℕ) → LivesIn w n k → {cs : List Call} → Spares w n cs →
+    LivesIn (run w cs) n k × (allGiven w n cs ++ queueOf (run w cs .table) k ≡ queueOf (w .table) k ++ allAccepted w n cs)
 unfolding run allGiven allAccepted
 in-order w τ n k h none = (h, sym (append-nil _))
 in-order w τ n k h (more {c = c} {cs = cs} e s) =
     let a = turn w τ n k h c e in
-    let b = in-order (step w c) (step-grows w c τ .tidy) n k (a .houses) s in (
+    let b = in-order (step w c) (step-grows w c τ .tidy) n k (a .lives) s in (
       b .0,
       append-assoc (given w n c) (allGiven (step w c) n cs) (queueOf (run (step w c) cs .table) k)
           ∙ ap (λ (l : List Message). given w n c ++ l) (b .1)
@@ -56,19 +56,19 @@ module _ (w : World) (r : Reached w) (n k q : ℕ) (c : CapId) (m : Message) (a 
   v-tidy : Tidy v
   v-tidy = step-grows w (send c m) (reached-tidy r) .tidy
 
-  v-houses : Houses v n k
+  v-lives : LivesIn v n k
   unfolding revokes
-  v-houses = turn w (reached-tidy r) n k (a .houses) (send c m) refl .houses
+  v-lives = turn w (reached-tidy r) n k (a .lives) (send c m) refl .lives
 
   -- m stands behind the others
   queued-behind : queueOf (v .table) k ≡ waited ++ (m ∷ [])
   unfolding given revokes
-  queued-behind = turn w (reached-tidy r) n k (a .houses) (send c m) refl .order ∙ ap (λ (l : List Message). waited ++ l) (a .accepts)
+  queued-behind = turn w (reached-tidy r) n k (a .lives) (send c m) refl .order ∙ ap (λ (l : List Message). waited ++ l) (a .accepts)
 
   -- and then what is accepted later
   all-in-order : (later : List Call) → Spares v n later → allGiven v n later ++ queueOf (run v later .table) k ≡ waited ++ (m ∷ allAccepted v n later)
   all-in-order later s =
-      in-order v v-tidy n k v-houses s .1
+      in-order v v-tidy n k v-lives s .1
       ∙ ap (λ (l : List Message). l ++ allAccepted v n later) queued-behind
       ∙ append-assoc waited (m ∷ []) (allAccepted v n later)
 
@@ -106,14 +106,14 @@ module _ (w : World) (r : Reached w) (n k q : ℕ) (c : CapId) (m : Message) (a 
       let τ = run-grows v before v-tidy .tidy in
       let f = only-gives u n x d g in
       let p = cut (allGiven v n before) (queueOf (u .table) k) waited (m ∷ allAccepted v n before) (all-in-order before s) (e ∙ sym (a .others)) in
-      let o = turn u τ n k (in-order v v-tidy n k v-houses s .0) d (f .spares) in
+      let o = turn u τ n k (in-order v v-tidy n k v-lives s .0) d (f .spares) in
       let z : x ∷ queueOf (step u d .table) k ≡ m ∷ allAccepted v n before =
       ap (λ (l : List Message). l ++ queueOf (step u d .table) k) (sym g) ∙ o .order ∙ ap (λ (l : List Message). queueOf (u .table) k ++ l) (f .accepts-none) ∙ append-nil _ ∙ p .1 in
       let y = cut (x ∷ []) (queueOf (step u d .table) k) (m ∷ []) (allAccepted v n before) z refl in
       record {
         earlier = p .0;
         now = cc;
-        later = λ rest free. in-order (step u d) (step-grows u d τ .tidy) n k (o .houses) free .1 ∙ ap (λ (l : List Message). l ++ allAccepted (step u d) n rest) (y .1);
+        later = λ rest free. in-order (step u d) (step-grows u d τ .tidy) n k (o .lives) free .1 ∙ ap (λ (l : List Message). l ++ allAccepted (step u d) n rest) (y .1);
       }
 
 pub given-in-turn : GivenInTurn

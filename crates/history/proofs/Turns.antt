@@ -37,20 +37,20 @@ use Rattle.ipc.proofs.AfterCounts.{authority-only, full-only, state-only, note-
 use Rattle.ipc.proofs.AfterCreate.{create-others}
 use Rattle.history.specs.Calls.{Call, create, send, receive, park, queued, revoke, register, release, holders, clear, noteAuthority, noteState, counts, fourSlots, answer, after}
 use Rattle.history.specs.World.{World, onCreation, settled, step}
-use Rattle.history.specs.Channels.{Houses, leads, on}
+use Rattle.history.specs.Channels.{LivesIn, leads, on}
 use Rattle.history.specs.Traffic.{ifSent, byReceive, byPark, accepted, given, revokes}
 use Rattle.history.proofs.Kept.{step-table}
 use Rattle.history.proofs.Steps.{StepWays, settles, births, step-ways}
 use Rattle.history.proofs.Tidy.{Tidy}
 
 pub record Turn (w v : World) (n k : ℕ) (out inn : List Message) : Type 0 where
-  pub houses : Houses v n k
+  pub lives : LivesIn v n k
   pub order : out ++ queueOf (v .table) k ≡ queueOf (w .table) k ++ inn
 
 pick-same : {A : Type 0} (b : Bool) (a : A) → pick b a a ≡ a
 pick-same b a = all-pick (λ x. x ≡ a) b a a (λ _. refl) (λ _. refl)
 
-module _ (w : World) (τ : Tidy w) (n k : ℕ) (h : Houses w n k) where
+module _ (w : World) (τ : Tidy w) (n k : ℕ) (h : LivesIn w n k) where
   abbrev t : Table
   t = w .table
 
@@ -63,7 +63,7 @@ module _ (w : World) (τ : Tidy w) (n k : ℕ) (h : Houses w n k) where
 
   -- ---- the queue stays
   stays : (u : Table) → mailboxLive u k ≡ mailboxLive t k → queueOf u k ≡ queueOf t k → Turn w (settled w u) n k [] []
-  stays u l q = record { houses = record { live = l ∙ h .live; tenant = h .tenant }; order = q ∙ sym (append-nil _) }
+  stays u l q = record { lives = record { live = l ∙ h .live; tenant = h .tenant }; order = q ∙ sym (append-nil _) }
 
   alike : (u : Table) → Alike t u k → Turn w (settled w u) n k [] []
   alike u a = stays u (a .live) (a .queue)
@@ -83,7 +83,7 @@ module _ (w : World) (τ : Tidy w) (n k : ℕ) (h : Houses w n k) where
       rw (a .opens, x .answer)
       (all-pick (Turn w (settled w (r .table)) n k []) (eqb (w .tenant (a .box)) n) _ _
       (λ e. let i = here (a .box) (opens-live t c sendRight (a .box) (τ .sound) (a .opens)) e in
-      record { houses = record { live = rw i at (x .live) ∙ h .live; tenant = h .tenant }; order = rw i at (x .queue) })
+      record { lives = record { live = rw i at (x .live) ∙ h .live; tenant = h .tenant }; order = rw i at (x .queue) })
       (λ e. alike (r .table) (x .rest .others k (elsewhere (a .box) e))))
 
   -- ---- receive and park
@@ -92,7 +92,7 @@ module _ (w : World) (τ : Tidy w) (n k : ℕ) (h : Houses w n k) where
       all-pick (λ out. Turn w (settled w u) n k out []) (eqb (w .tenant j) n) _ _
       (λ e. let i = here j l e in
       let q : queueOf t k ≡ m ∷ queueOf u k = rw i at (g .queue) in
-      record { houses = record { live = rw i at (g .live) ∙ h .live; tenant = h .tenant }; order = sym q ∙ sym (append-nil _) })
+      record { lives = record { live = rw i at (g .live) ∙ h .live; tenant = h .tenant }; order = sym q ∙ sym (append-nil _) })
       (λ e. alike u (g .rest .others k (elsewhere j e)))
 
   receives : (c : CapId) {r : Receiving} → after-recv.RecvWays t c r → Turn w (settled w (r .table)) n k (pick (on w n c receiveRight) (byReceive (r .answer)) []) []
@@ -133,7 +133,7 @@ module _ (w : World) (τ : Tidy w) (n k : ℕ) (h : Houses w n k) where
   creates : (b : Bool) → Turn w (step w (create b)) n k [] []
   creates b =
       record {
-        houses = record { live = seen b .live ∙ h .live; tenant = number-stays b (step-ways w (create b) (τ .sound)) ∙ h .tenant };
+        lives = record { live = seen b .live ∙ h .live; tenant = number-stays b (step-ways w (create b) (τ .sound)) ∙ h .tenant };
         order = seen b .queue ∙ sym (append-nil _);
       }
 

@@ -7,7 +7,7 @@
 --   "until 65,535 later creations            v .made < n + 65535: fewer than 65,535 of the creations up to v came after channel n's
 --   have succeeded"
 --
--- A channel lives in one mailbox at most, so that "the mailbox where n lives" is one: `OneHouse`.
+-- A channel lives in one mailbox at most, so that "the mailbox where n lives" is one: `OneMailbox`.
 use mathlib.Core.Path.{_≡_}
 use mathlib.Core.Bool.{Bool, false, _&&_, not}
 use mathlib.Core.List.{List, [], _∷_}
@@ -42,7 +42,7 @@ use Rattle.ipc.specs.declared.opening.Opening.the-variants.{Opens, Shut}
 use Rattle.history.specs.Calls.{Call, create, send, receive, park, queued, revoke, holders, Answer, created, sent, received, parked, measured, revoked, held, answer, after}
 use Rattle.history.specs.Numbers.{numberOf}
 use Rattle.history.specs.World.{World, step, run, Reached}
-use Rattle.history.specs.Channels.{Houses}
+use Rattle.history.specs.Channels.{LivesIn}
 
 -- in w the creation succeeds: it makes channel n, with these ids
 pub record Makes (w : World) (ephemeral : Bool) (n : ℕ) (ids : Channel) : Type 0 where
@@ -56,10 +56,10 @@ IdOf ids c = (c ≡ ids .send) ⊎ (c ≡ ids .recv)
 -- ---- what opens
 -- c opens channel n or nothing: by each right, by either right, as a revocation asks, and in a slot as a hold
 pub record OpensOnly (w : World) (n : ℕ) (c : CapId) : Type 0 where
-  pub by : (need : CapRights) (k : ℕ) → openingOf (w .table) c need ≡ Opens k → Houses w n k
-  pub either : (k : ℕ) → eitherOf (w .table) c ≡ Opens k → Houses w n k
-  pub any : (k : ℕ) → anyRightOf (w .table) c ≡ Opens k → Houses w n k
-  pub hold : (x : Slot) → x .id ≡ c → (k : ℕ) → holdOf (w .table) x ≡ Opens k → Houses w n k
+  pub by : (need : CapRights) (k : ℕ) → openingOf (w .table) c need ≡ Opens k → LivesIn w n k
+  pub either : (k : ℕ) → eitherOf (w .table) c ≡ Opens k → LivesIn w n k
+  pub any : (k : ℕ) → anyRightOf (w .table) c ≡ Opens k → LivesIn w n k
+  pub hold : (x : Slot) → x .id ≡ c → (k : ℕ) → holdOf (w .table) x ≡ Opens k → LivesIn w n k
 
 -- ---- what that is for each call with an id
 -- the oldest of what waits, or Empty
@@ -94,7 +94,7 @@ holdersAt t k = held (Holders (holdsOf t k))
 -- a call on channel n or on nothing: refused with BadCap, or answered by the mailbox where n lives; no other mailbox changes
 pub data Reaches (w : World) (n : ℕ) (call : Call) (of : ℕ → Answer) : Type 0 where
   nothing : numberOf (answer (w .table) call) ≡ no.badCap → OnlyCounts (w .table) (after (w .table) call) → Reaches w n call of
-  channel : (k : ℕ) → Houses w n k → answer (w .table) call ≡ of k → ((j : ℕ) → (j ≡ k → ⊥) → Alike (w .table) (after (w .table) call) j) → Reaches w n call of
+  channel : (k : ℕ) → LivesIn w n k → answer (w .table) call ≡ of k → ((j : ℕ) → (j ≡ k → ⊥) → Alike (w .table) (after (w .table) call) j) → Reaches w n call of
 
 -- every call with the id c
 pub record Reach (w : World) (n : ℕ) (c : CapId) : Type 0 where
@@ -113,8 +113,8 @@ IdsKeep =
     v .made < n + 65535 → (c : CapId) → IdOf ids c → OpensOnly v n c × Reach v n c
 
 -- two live mailboxes never have one channel
-abbrev pub OneHouse : Type 0
-OneHouse = (w : World) → Reached w → (n j k : ℕ) → Houses w n j → Houses w n k → j ≡ k
+abbrev pub OneMailbox : Type 0
+OneMailbox = (w : World) → Reached w → (n j k : ℕ) → LivesIn w n j → LivesIn w n k → j ≡ k
 
 -- ---- it is not for nothing
 -- each of the two ids opens mailbox k, by its right
@@ -125,7 +125,7 @@ pub record OpensBoth (v : World) (k : ℕ) (ids : Channel) : Type 0 where
 -- right after the creation channel n lives, and its two ids, which differ, open it, each by its one right
 pub record OpensNow (v : World) (n : ℕ) (ids : Channel) : Type 0 where
   pub box : ℕ
-  pub houses : Houses v n box
+  pub lives : LivesIn v n box
   pub both : OpensBoth v box ids
   pub sends-only : openingOf (v .table) (ids .send) receiveRight ≡ Shut
   pub receives-only : openingOf (v .table) (ids .recv) sendRight ≡ Shut
@@ -138,12 +138,12 @@ IdsOpen = (w : World) → Reached w → (b : Bool) (n : ℕ) (ids : Channel) →
 abbrev pub IdsStay : Type 0
 IdsStay =
     (w : World) → Reached w → (b : Bool) (n : ℕ) (ids : Channel) → Makes w b n ids →
-    (later : List Call) → let v = run (step w (create b)) later in (k : ℕ) → Houses v n k → OpensBoth v k ids
+    (later : List Call) → let v = run (step w (create b)) later in (k : ℕ) → LivesIn v n k → OpensBoth v k ids
 
 -- ---- both sides of the edge: "Channel 1 revoked at once: its id opens nothing after 65,534 more creations; after the 65,535th it may."
 -- channel n lives nowhere, and its ids open nothing until 65,535 later creations have succeeded
 pub record Ended (u : World) (n : ℕ) (ids : Channel) : Type 0 where
-  pub gone : (k : ℕ) → Houses u n k → ⊥
+  pub gone : (k : ℕ) → LivesIn u n k → ⊥
   pub shut : u .made < n + 65535 → (d : CapId) → IdOf ids d → (need : CapRights) → openingOf (u .table) d need ≡ Shut
 
 -- so it is from a revocation on, which ends the channel of the id that it is given
@@ -169,5 +169,5 @@ pub record IdsReturn : Type 0 where
   -- and one more: both open the channel that it made
   pub made : step before (create false) .made ≡ 1 + 65535
   pub box : ℕ
-  pub houses : Houses (step before (create false)) 65536 box
+  pub lives : LivesIn (step before (create false)) 65536 box
   pub both : OpensBoth (step before (create false)) box ids

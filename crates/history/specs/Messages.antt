@@ -32,13 +32,13 @@ use Rattle.ipc.specs.declared.answers.RecvAnswer.the-variants.{Received}
 use Rattle.ipc.specs.declared.answers.ParkAnswer.the-variants.{Given}
 use Rattle.history.specs.Calls.{Call, send, receive, park}
 use Rattle.history.specs.World.{World, step, run, Reached}
-use Rattle.history.specs.Channels.{Houses, on}
+use Rattle.history.specs.Channels.{LivesIn, on}
 use Rattle.history.specs.Traffic.{accepted, given, revokes, allAccepted, allGiven, Spares}
 
 -- ---- the sentence
 -- m is accepted on channel n, which lives in mailbox k, behind q others
 pub record AcceptedBehind (w : World) (n k q : ℕ) (c : CapId) (m : Message) : Type 0 where
-  pub houses : Houses w n k
+  pub lives : LivesIn w n k
   pub accepts : accepted w n (send c m) ≡ m ∷ []
   pub others : length (queueOf (w .table) k) ≡ q
 
@@ -88,8 +88,8 @@ EachHasItsCall = (w : World) (n q : ℕ) (cs : List Call) → q < length (allGiv
 -- channel n stays where it lives; what was given and then what waits is what waited and then what was accepted
 abbrev pub InOrder : Type 0
 InOrder =
-    (w : World) → Reached w → (n k : ℕ) → Houses w n k → (cs : List Call) → Spares w n cs →
-    Houses (run w cs) n k × (allGiven w n cs ++ queueOf (run w cs .table) k ≡ queueOf (w .table) k ++ allAccepted w n cs)
+    (w : World) → Reached w → (n k : ℕ) → LivesIn w n k → (cs : List Call) → Spares w n cs →
+    LivesIn (run w cs) n k × (allGiven w n cs ++ queueOf (run w cs .table) k ≡ queueOf (w .table) k ++ allAccepted w n cs)
 
 -- ---- before its turn, and after a revocation
 -- until its turn m waits: it stands in the queue behind those of the others that were not given yet
@@ -110,13 +110,13 @@ NothingMore =
 -- a send by an id that opens channel n is accepted where there is room
 abbrev pub GoesIn : Type 0
 GoesIn =
-    (w : World) → Reached w → (n k : ℕ) → Houses w n k → length (queueOf (w .table) k) < w .table .sizes .depth →
+    (w : World) → Reached w → (n k : ℕ) → LivesIn w n k → length (queueOf (w .table) k) < w .table .sizes .depth →
     (c : CapId) (m : Message) → on w n c sendRight ≡ true → AcceptedBehind w n k (length (queueOf (w .table) k)) c m
 
 -- the oldest message is given by each try to receive and each park by an id that opens channel n
 abbrev pub ComesOut : Type 0
 ComesOut =
-    (w : World) → Reached w → (n k : ℕ) → Houses w n k → (m : Message) (rest : List Message) → queueOf (w .table) k ≡ m ∷ rest →
+    (w : World) → Reached w → (n k : ℕ) → LivesIn w n k → (m : Message) (rest : List Message) → queueOf (w .table) k ≡ m ∷ rest →
     (c : CapId) → on w n c receiveRight ≡ true → (given w n (receive c) ≡ m ∷ []) × ((task : TaskId) → given w n (park c task) ≡ m ∷ [])
 
 -- ---- no answer is left out

@@ -41,12 +41,12 @@ use Rattle.ipc.specs.declared.answers.RevokeAnswer.the-variants.{Revoked}
 use Rattle.ipc.specs.declared.opening.Opening.the-variants.{Opens}
 use Rattle.history.specs.Calls.{Call, create, send, receive, park, queued, revoke, register, release, holders, clear, noteAuthority, noteState, counts, sent, parked, revoked, released, fourSlots, answer}
 use Rattle.history.specs.World.{World, step, run, Reached}
-use Rattle.history.specs.Channels.{Houses, on, onAny}
+use Rattle.history.specs.Channels.{LivesIn, on, onAny}
 
 -- ---- who waits
 -- task x waits on channel n, which lives in mailbox k
 pub record Waits (w : World) (n k : ℕ) (x : TaskId) : Type 0 where
-  pub houses : Houses w n k
+  pub lives : LivesIn w n k
   pub waiter : waiterOf (w .table) k ≡ waiting x
 
 -- ---- what ends the wait
