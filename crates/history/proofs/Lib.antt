@@ -28,6 +28,7 @@ pub mod Turns
 pub mod Givings
 pub mod Messages
 pub mod Gone
+pub mod Created
 pub mod Flows
 pub mod ExampleMessages
 pub mod Edges
