@@ -114,7 +114,7 @@ module _ (log : List ℕ) (p : Place) (h : Placed log p) (out : List ℕ) where
     pub left : f .part .answer ≡ NoRoom → partOf f ++ textAt log (f .part .place) ≡ textAt log p
     pub again : Placed log (f .part .place)
 
-  reached : reachable log p ≡ true
+  pub reached : reachable log p ≡ true
   reached = rw (le-leb (p .offset) (length log) (h .inside), le-leb (p .done) (p .offset) (h .counted), test-of (p .tables .channels) (h .sound)) refl
 
   -- too long a log
