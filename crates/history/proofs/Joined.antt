@@ -36,9 +36,9 @@ use Rattle.joined.specs.declared.answers.GiveAnswer as give
 use Rattle.joined.proofs.Register.{list-registered, word-registered}
 use Rattle.joined.proofs.Ways.{spawn-ways, leave-ways, give-ways}
 use Rattle.history.specs.Calls as calls
-use Rattle.history.specs.Calls.{Call, register, fourSlots, answer, after}
+use Rattle.history.specs.Calls.{Call, register, fourSlots, releasing, answer, after}
 use Rattle.history.specs.World.{World, run}
-use Rattle.history.specs.Joined.{ifAccepted, releasing, registering, spawnCalls, leaveCalls, giveCalls, JoinedRuns, JoinedTell}
+use Rattle.history.specs.Joined.{ifAccepted, registering, spawnCalls, leaveCalls, giveCalls, JoinedRuns, JoinedTell}
 use Rattle.history.proofs.Kept.{step-table}
 use Rattle.history.proofs.Tidy.{Tidy, reached-tidy}
 

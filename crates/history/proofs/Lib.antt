@@ -2,6 +2,7 @@ pub mod Kept
 pub mod Shrinks
 pub mod Steps
 pub mod Tidy
+pub mod ReachLists
 pub mod Reach
 pub mod Ids
 pub mod Lives

@@ -18,7 +18,8 @@ use Rattle.operations.specs.Channels.{createDone}
 use Rattle.operations.specs.declared.Tables.{Tables}
 use Rattle.history.specs.Calls.{create, created, answer}
 use Rattle.history.specs.World.{World, run, step}
-use Rattle.history.specs.Ids.{Makes, IdOf, OpensOnly, Reach}
+use Rattle.history.specs.Ids.{Makes, IdOf, OpensOnly}
+use Rattle.history.specs.Reach.{Reach}
 use Rattle.history.specs.Operations.{Operation, doneBy, callsOf, Logged, operate, operated, beginning, Follows, lasting, callsOver}
 use Rattle.history.specs.LogIds.{creation, KeepsId, LogIdsKeep}
 use Rattle.history.proofs.Ids.{ids-keep}

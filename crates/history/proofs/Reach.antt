@@ -38,7 +38,9 @@ use Rattle.ipc.proofs.AfterPark.{park-others}
 use Rattle.ipc.proofs.AfterRevoke as revokes
 use Rattle.history.specs.Calls.{send, receive, park, queued, revoke, holders, sent, received, parked, measured, revoked, held, answer, after}
 use Rattle.history.specs.World.{World}
-use Rattle.history.specs.Ids.{OpensOnly, Reaches, nothing, channel, Reach, oldestOf, parkBy, sendAt, receiveAt, parkAt, queuedAt, revokeAt, holdersAt}
+use Rattle.history.specs.Reach.{Reaches, nothing, channel, Reach, oldestOf, parkBy, sendAt, receiveAt, parkAt, queuedAt, revokeAt, holdersAt}
+use Rattle.history.specs.Ids.{OpensOnly}
+use Rattle.history.proofs.ReachLists.{touch-register, touch-release, alike-register, alike-release}
 
 -- an opening opens one mailbox
 one-opens : {o : Opening} {j k : ℕ} → o ≡ Opens j → o ≡ Opens k → j ≡ k
@@ -150,4 +152,16 @@ module _ (w : World) (n : ℕ) (c : CapId) (σ : Sound (w .table)) (only : Opens
       by Shut o = nothing (ap holdersNumber (holders-refused t c o)) (same-counts t)
 
   pub reaches : Reach w n c
-  reaches = record { send = reach-send; receive = reach-receive; park = reach-park; queued = reach-queued; revoke = reach-revoke; holders = reach-holders }
+  reaches =
+      record {
+        send = reach-send;
+        receive = reach-receive;
+        park = reach-park;
+        queued = reach-queued;
+        revoke = reach-revoke;
+        holders = reach-holders;
+        registers = touch-register w n c σ only;
+        releases = touch-release w n c σ only;
+        register = alike-register w n c σ only;
+        release = alike-release w n c σ only;
+      }

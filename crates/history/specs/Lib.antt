@@ -2,6 +2,7 @@ pub mod Calls
 pub mod World
 pub mod Channels
 pub mod Numbers
+pub mod Reach
 pub mod Ids
 pub mod Refusals
 pub mod Public

@@ -7,7 +7,8 @@ use mathlib.Core.List.{List, [], _∷_}
 use mathlib.Core.Logic.{_⊎_}
 use Prim.Native.Nat.{ℕ, suc, _+_, _<_}
 use Rattle.cap.specs.declared.CapId.{CapId}
-use Rattle.history.specs.Ids.{OpensOnly, Reach}
+use Rattle.history.specs.Reach.{Reach}
+use Rattle.history.specs.Ids.{OpensOnly}
 use Rattle.history.specs.Operations.{Operation, doneBy, Logged, operate, operated, beginning, Follows, lasting}
 
 -- 1, create

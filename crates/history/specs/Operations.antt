@@ -8,7 +8,6 @@ use Prim.Native.Nat.{ℕ, _≤_, _<_}
 use lib.Dec.{eqb}
 use lib.ListN.{getD, length}
 use Rattle.laws.specs.Pick.{pick}
-use Rattle.laws.specs.Refusals as no
 use Rattle.capslots.specs.Table.{Shape}
 use Rattle.ipc.specs.Make.{inRange, sizesOf}
 use Rattle.ipc.specs.declared.state.Sizes.{Sizes}
@@ -20,10 +19,10 @@ use Rattle.operations.specs.Channels.{allFresh}
 use Rattle.operations.specs.Done.{Done}
 use Rattle.operations.specs.Operands.{idAt, taskAt, messageAt}
 use Rattle.operations.specs.declared.Tables.{Tables}
-use Rattle.history.specs.Calls.{Call, create, send, receive, park, queued, revoke, register, holders, clear, noteAuthority, noteState, counts, answer}
+use Rattle.history.specs.Calls.{Call, create, send, receive, park, queued, revoke, register, releasing, holders, clear, noteAuthority, noteState, counts, answer}
 use Rattle.history.specs.Numbers.{numberOf, valuesOf}
 use Rattle.history.specs.World.{World, run, start, Reached}
-use Rattle.history.specs.Joined.{releasing, spawnCalls, leaveCalls, giveCalls}
+use Rattle.history.specs.Joined.{spawnCalls, leaveCalls, giveCalls}
 
 -- an operation by its number, with the log from the start of its record
 pub record Operation : Type 0 where
