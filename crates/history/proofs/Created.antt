@@ -1,30 +1,77 @@
--- A channel from its creation on: where it still lives it was not revoked, it is of the kind it was created, `kind-stays`, and what waits
--- in it is what was accepted and not given yet, `behind-counted`. Assumes nothing.
+-- A channel from its creation on: every one that lives has its creation, `each-created`; while it lives it was not revoked, it is of the
+-- kind it was created, `kind-stays`, and what waits in it is what was accepted and not given yet, `behind-counted`. Assumes nothing.
 use mathlib.Core.Path.{_≡_, refl, sym, ap, _∙_}
 use mathlib.Core.Bool.{Bool}
 use mathlib.Core.List.{List, [], _∷_, _++_}
 use mathlib.Core.Logic.{⊎-elim}
-use Prim.Native.Nat.{ℕ, _+_}
+use Prim.Native.Nat.{ℕ, _+_, _≤_, _<_}
 use native.Mathlib.Omega.{arith}
 use lib.ListN.{length, length-append}
-use Rattle.laws.proofs.Bools.{either}
+use Rattle.laws.proofs.Bools.{either, below?}
 use Rattle.ipc.specs.Views.{queueOf, ephemeralOf}
 use Rattle.ipc.specs.declared.state.Channel.{Channel}
 use Rattle.ipc.specs.declared.state.Message.{Message}
-use Rattle.history.specs.Calls.{Call, create}
-use Rattle.history.specs.World.{World, step, run, Reached, then}
+use Rattle.history.specs.Calls.{Call, create, created, answer}
+use Rattle.history.specs.World.{World, step, run, Reached, fresh, then}
 use Rattle.history.specs.Channels.{LivesIn}
-use Rattle.history.specs.Ids.{Makes}
+use Rattle.history.specs.Ids.{Makes, CreatedIn, EachCreated}
 use Rattle.history.specs.Traffic.{revokes, allGiven, allAccepted, Spares, none, more}
 use Rattle.history.specs.Messages.{BehindCounted}
 use Rattle.history.specs.Waits.{KindStays}
-use Rattle.history.proofs.Kept.{reached-run}
-use Rattle.history.proofs.Tidy.{Tidy, step-grows, reached-tidy}
+use Rattle.history.proofs.Kept.{run-on, reached-run}
+use Rattle.history.proofs.Steps.{StepWays, settles, births, step-ways}
+use Rattle.history.proofs.Tidy.{Tidy, step-grows, start-tidy, reached-tidy}
 use Rattle.history.proofs.Ids.{Placed, placed, one-channel}
-use Rattle.history.proofs.Lives.{run-gone}
+use Rattle.history.proofs.Lives.{step-lived, run-gone}
 use Rattle.history.proofs.Turns.{turn}
 use Rattle.history.proofs.Messages.{messages-in-order}
 use Rattle.history.proofs.Gone.{revoked-gone}
+
+-- ---- its creation
+-- one call more
+created-on : (w : World) (n : ℕ) (c : Call) → CreatedIn w n → CreatedIn (step w c) n
+unfolding run
+created-on w n c x =
+    record {
+      before = x .before;
+      reached = x .reached;
+      ephemeral = x .ephemeral;
+      ids = x .ids;
+      makes = x .makes;
+      later = x .later ++ (c ∷ []);
+      comes = ap (λ v. step v c) (x .comes) ∙ sym (run-on (step (x .before) (create (x .ephemeral))) (x .later) (c ∷ []));
+    }
+
+-- a number that no channel had before is that of the channel that the call makes
+created-now : (w : World) → Reached w → (c : Call) (n k : ℕ) → w .made < n → LivesIn (step w c) n k → CreatedIn (step w c) n
+unfolding run answer
+created-now w r c n k up l = by (step-ways w c (reached-tidy r .sound))
+  where
+    few : n ≤ step w c .made
+    few = let p = step-grows w c (reached-tidy r) .tidy .last k (l .live) in let e = l .tenant in omega arith
+
+    by : StepWays w c (step w c) → CreatedIn (step w c) n
+    by (settles _ q) = let e : step w c .made ≡ w .made = ap (λ (v : World). v .made) q in let f = few in absurd (omega arith)
+    by (births b _ _ _ e β) =
+        let m = β .made in
+        let f = few in
+        record {
+          before = w;
+          reached = r;
+          ephemeral = b;
+          ids = _;
+          makes = record { answers = ap created (β .makes .answer); number = omega arith };
+          later = [];
+          comes = ap (step w) e;
+        }
+
+has-creation : {w : World} → Reached w → (n k : ℕ) → LivesIn w n k → CreatedIn w n
+has-creation (fresh z h) n k l = let τ = start-tidy z h in let p = τ .first k (l .live) in let q = τ .last k (l .live) in absurd (omega arith)
+has-creation (then {w} r c) n k l =
+    ⊎-elim (λ up. created-now w r c n k up l) (λ past. created-on w n c (has-creation r n k (step-lived w c n k (reached-tidy r) past l .lives))) (below? (w .made) n)
+
+pub each-created : EachCreated
+each-created w r = has-creation r
 
 -- ---- a channel that lives after a run
 -- no call revoked it, and it is of the kind it was

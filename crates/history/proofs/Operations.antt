@@ -29,10 +29,10 @@ use Rattle.history.specs.Calls.{Call, after}
 use Rattle.history.specs.World.{World, run, start, Reached, fresh}
 use Rattle.history.specs.Joined.{spawnCalls, leaveCalls, giveCalls}
 use Rattle.history.specs.Operations.{Operation, allCalls, callsOf, sizesAt, renews, Logged, follow, operate, operated, beginning, Follows, OperationsFollow, LogsFollow, lasting, callsOver, OperationsRun}
-use Rattle.history.proofs.Kept.{reached-run}
+use Rattle.history.proofs.Kept.{run-on, reached-run}
 use Rattle.history.proofs.Along.{Along, end, _▸_, along}
 use Rattle.history.proofs.Joined.{one-call, joined-runs}
-use Rattle.history.proofs.Sequences.{spawn-shape, leave-shape, give-shape, run-on}
+use Rattle.history.proofs.Sequences.{spawn-shape, leave-shape, give-shape}
 
 -- a list but for its head
 abbrev past : {A : Type 0} → List A → List A

@@ -1,7 +1,7 @@
 -- Sequences of calls and joined steps are runs of calls, `sequences-run`; in a run the public steps are their rules, `joined-public`.
 -- Assumes nothing.
 use mathlib.Core.Path.{_≡_, refl, ap, _∙_}
-use mathlib.Core.List.{List, [], _∷_, _++_}
+use mathlib.Core.List.{List, [], _∷_}
 use Prim.Native.Nat.{ℕ}
 use Rattle.cap.specs.declared.CapId.{CapId}
 use Rattle.capslots.specs.Table.{Shape}
@@ -13,10 +13,10 @@ use Rattle.joined.specs.declared.answers.Spawning.{Spawning}
 use Rattle.joined.specs.declared.answers.Leaving.{Leaving}
 use Rattle.joined.specs.declared.answers.Giving.{Giving}
 use Rattle.joined.proofs.Ways.{spawn-ways, leave-ways, give-ways}
-use Rattle.history.specs.Calls.{Call, after}
-use Rattle.history.specs.World.{World, run, step, Reached}
+use Rattle.history.specs.Calls.{after}
+use Rattle.history.specs.World.{World, run, Reached}
 use Rattle.history.specs.Sequences.{Deed, call, spawn, leave, give, rows, Both, afterDeed, afterDeeds, deedCalls, deedsCalls, SequencesRun, JoinedPublic}
-use Rattle.history.proofs.Kept.{reached-sound, reached-run}
+use Rattle.history.proofs.Kept.{run-on, reached-sound, reached-run}
 use Rattle.history.proofs.Public.{served}
 use Rattle.history.proofs.Joined.{one-call, joined-runs}
 
@@ -47,11 +47,6 @@ deed-run w b (spawn r words) reached e shape = rw (← e) (joined-runs w reached
 deed-run w b (leave r) reached e shape = rw (← e) (joined-runs w reached (b .rows) shape .leave r)
 deed-run w b (give r s c) reached e shape = rw (← e) (joined-runs w reached (b .rows) shape .give r s c)
 deed-run w b (rows u _) reached e shape = e
-
-pub run-on : (w : World) (cs ds : List Call) → run w (cs ++ ds) ≡ run (run w cs) ds
-unfolding run
-run-on w [] ds = refl
-run-on w (c ∷ cs) ds = run-on (step w c) cs ds
 
 deeds-run : (w : World) (b : Both) (ds : List Deed) → Reached w → w .table ≡ b .channels → Shape (b .rows) → run w (deedsCalls b ds) .table ≡ afterDeeds b ds .channels
 unfolding deedsCalls afterDeeds run

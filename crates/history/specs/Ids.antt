@@ -33,6 +33,20 @@ pub record Makes (w : World) (ephemeral : Bool) (n : ℕ) (ids : Channel) : Type
   pub answers : answer (w .table) (create ephemeral) ≡ created (Created ids)
   pub number : n ≡ suc (w .made)
 
+-- its creation, in the calls that came to w
+pub record CreatedIn (w : World) (n : ℕ) : Type 0 where
+  pub before : World
+  pub reached : Reached before
+  pub ephemeral : Bool
+  pub ids : Channel
+  pub makes : Makes before ephemeral n ids
+  pub later : List Call
+  pub comes : w ≡ run (step before (create ephemeral)) later
+
+-- every channel that lives has one, so that what holds from a creation on holds of every channel
+abbrev pub EachCreated : Type 0
+EachCreated = (w : World) → Reached w → (n k : ℕ) → LivesIn w n k → CreatedIn w n
+
 -- one of a channel's two ids
 abbrev pub IdOf : Channel → CapId → Type 0
 IdOf ids c = (c ≡ ids .send) ⊎ (c ≡ ids .recv)
