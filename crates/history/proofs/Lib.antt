@@ -14,6 +14,8 @@ pub mod Sequences
 pub mod Along
 pub mod Operations
 pub mod Lines
+pub mod LinesShow
+pub mod LinesName
 pub mod LogIds
 pub mod LogMessages
 pub mod LogWaits

@@ -12,7 +12,7 @@ use Rattle.cap.specs.Rights.{sendRight, receiveRight}
 use Rattle.cap.specs.declared.CapId.{CapId}
 use Rattle.ipc.specs.State.{mailboxAt, messageAt}
 use Rattle.ipc.specs.Sound.{Sound}
-use Rattle.ipc.specs.Answers.{sendNumber, recvNumber, parkNumber, queuedNumber, revokeNumber, holdersNumber}
+use Rattle.ipc.specs.Answers.{sendNumber, sendValues, recvNumber, recvValues, parkNumber, parkValues, queuedNumber, queuedValues, revokeNumber, revokeValues, holdersNumber, holdersValues}
 use Rattle.ipc.specs.Counts.{authorityRaised, stateRaised}
 use Rattle.ipc.specs.Opening.{openingOf, eitherOf, opened}
 use Rattle.ipc.specs.Send.{sendOf}
@@ -95,7 +95,7 @@ module _ (w : World) (n : ℕ) (c : CapId) (σ : Sound (w .table)) (only : Opens
 
       by : sends.SendWays t c m (sendOf t c m) → Reaches w n (send c m) (sendAt t)
       by (sends.bad-cap _ q) =
-          nothing (ap (λ (r : Sending). sendNumber (r .answer)) q) (subst (λ (r : Sending). OnlyCounts t (r .table)) (sym q) (authority-only t))
+          nothing (ap (λ (r : Sending). sendNumber (r .answer)) q) (ap (λ (r : Sending). sendValues (r .answer)) q) (subst (λ (r : Sending). OnlyCounts t (r .table)) (sym q) (authority-only t))
       by (sends.full k o f q) = channel k (only .by sendRight k o) (ap sent (yes _ (eq-eqb _ _ f) (ap (λ (r : Sending). r .answer) q))) (others k o)
       by (sends.sent a x) =
           let room : length (queueOf t (a .box)) ≡ t .sizes .depth → ⊥ = λ e. let l = a .below in omega arith in
@@ -110,7 +110,7 @@ module _ (w : World) (n : ℕ) (c : CapId) (σ : Sound (w .table)) (only : Opens
 
       by : receives.RecvWays t c (recvOf t c) → Reaches w n (receive c) (receiveAt t)
       by (receives.bad-cap _ q) =
-          nothing (ap (λ (r : Receiving). recvNumber (r .answer)) q) (subst (λ (r : Receiving). OnlyCounts t (r .table)) (sym q) (authority-only t))
+          nothing (ap (λ (r : Receiving). recvNumber (r .answer)) q) (ap (λ (r : Receiving). recvValues (r .answer)) q) (subst (λ (r : Receiving). OnlyCounts t (r .table)) (sym q) (authority-only t))
       by (receives.empty k o e q) =
           channel k (only .by receiveRight k o) (ap received (ap (λ (r : Receiving). r .answer) q ∙ sym (ap oldestOf e))) (others k o)
       by (receives.received k m o a g) = channel k (only .by receiveRight k o) (ap received (a ∙ sym (ap oldestOf (g .queue)))) (others k o)
@@ -124,7 +124,7 @@ module _ (w : World) (n : ℕ) (c : CapId) (σ : Sound (w .table)) (only : Opens
           channel k (only .by receiveRight k o) (ap parked (park-answers t c task k o)) (λ j ne. park-others t c task σ j (λ e. ne (one-opens e o)))
       by Shut o =
           let q = park-shut t c task o in
-          nothing (ap (λ (r : Parking). parkNumber (r .answer)) q) (subst (λ (r : Parking). OnlyCounts t (r .table)) (sym q) (authority-only t))
+          nothing (ap (λ (r : Parking). parkNumber (r .answer)) q) (ap (λ (r : Parking). parkValues (r .answer)) q) (subst (λ (r : Parking). OnlyCounts t (r .table)) (sym q) (authority-only t))
 
   reach-queued : Reaches w n (queued c) (queuedAt t)
   unfolding answer after
@@ -132,7 +132,7 @@ module _ (w : World) (n : ℕ) (c : CapId) (σ : Sound (w .table)) (only : Opens
     where
       by : (o : Opening) → eitherOf t c ≡ o → Reaches w n (queued c) (queuedAt t)
       by (Opens k) o = channel k (only .either k o) (ap measured (queued-says t c k o)) (λ j _. alike-same t j)
-      by Shut o = nothing (ap queuedNumber (queued-refused t c o)) (same-counts t)
+      by Shut o = nothing (ap queuedNumber (queued-refused t c o)) (ap queuedValues (queued-refused t c o)) (same-counts t)
 
   reach-revoke : Reaches w n (revoke c) (revokeAt t)
   unfolding answer after
@@ -140,7 +140,7 @@ module _ (w : World) (n : ℕ) (c : CapId) (σ : Sound (w .table)) (only : Opens
     where
       by : revokes.RevokeWays t c (revokeOf t c) → Reaches w n (revoke c) (revokeAt t)
       by (revokes.bad-cap _ q) =
-          nothing (ap (λ (r : Revoking). revokeNumber (r .answer)) q) (subst (λ (r : Revoking). OnlyCounts t (r .table)) (sym q) (authority-only t))
+          nothing (ap (λ (r : Revoking). revokeNumber (r .answer)) q) (ap (λ (r : Revoking). revokeValues (r .answer)) q) (subst (λ (r : Revoking). OnlyCounts t (r .table)) (sym q) (authority-only t))
       by (revokes.revoked k o _ a x) = channel k (only .any k o) (ap revoked a) (x .others)
 
   reach-holders : Reaches w n (holders c) (holdersAt t)
@@ -149,7 +149,7 @@ module _ (w : World) (n : ℕ) (c : CapId) (σ : Sound (w .table)) (only : Opens
     where
       by : (o : Opening) → openingOf t c sendRight ≡ o → Reaches w n (holders c) (holdersAt t)
       by (Opens k) o = channel k (only .by sendRight k o) (ap held (holders-says t c k o)) (λ j _. alike-same t j)
-      by Shut o = nothing (ap holdersNumber (holders-refused t c o)) (same-counts t)
+      by Shut o = nothing (ap holdersNumber (holders-refused t c o)) (ap holdersValues (holders-refused t c o)) (same-counts t)
 
   pub reaches : Reach w n c
   reaches =

@@ -14,6 +14,7 @@ pub mod Idle
 pub mod Joined
 pub mod Sequences
 pub mod Operations
+pub mod Lines
 pub mod LogIds
 pub mod LogMessages
 pub mod LogWaits

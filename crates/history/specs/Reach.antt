@@ -33,7 +33,7 @@ use Rattle.ipc.specs.declared.answers.QueuedAnswer.the-variants.{Queued}
 use Rattle.ipc.specs.declared.answers.HoldersAnswer.the-variants.{Holders}
 use Rattle.ipc.specs.declared.answers.RevokeAnswer.the-variants.{Revoked}
 use Rattle.history.specs.Calls.{Call, send, receive, park, queued, revoke, register, releasing, holders, Answer, sent, received, parked, measured, revoked, held, answer, after}
-use Rattle.history.specs.Numbers.{numberOf}
+use Rattle.history.specs.Numbers.{numberOf, valuesOf}
 use Rattle.history.specs.World.{World}
 use Rattle.history.specs.Channels.{LivesIn}
 
@@ -67,9 +67,10 @@ revokeAt t k = revoked (Revoked (waiterOf t k))
 abbrev pub holdersAt : Table → ℕ → Answer
 holdersAt t k = held (Holders (holdsOf t k))
 
--- a call on channel n or on nothing: refused with BadCap, or answered by the mailbox where n lives; no other mailbox changes
+-- a call on channel n or on nothing: refused with BadCap, which shows no values, or answered by the mailbox where n lives; no other mailbox
+-- changes
 pub data Reaches (w : World) (n : ℕ) (call : Call) (of : ℕ → Answer) : Type 0 where
-  nothing : numberOf (answer (w .table) call) ≡ no.badCap → OnlyCounts (w .table) (after (w .table) call) → Reaches w n call of
+  nothing : numberOf (answer (w .table) call) ≡ no.badCap → valuesOf (answer (w .table) call) ≡ [] → OnlyCounts (w .table) (after (w .table) call) → Reaches w n call of
   channel : (k : ℕ) → LivesIn w n k → answer (w .table) call ≡ of k → ((j : ℕ) → (j ≡ k → ⊥) → Alike (w .table) (after (w .table) call) j) → Reaches w n call of
 
 -- ---- in a list
