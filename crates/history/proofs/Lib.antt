@@ -10,6 +10,7 @@ pub mod Return
 pub mod Refusals
 pub mod Public
 pub mod Joined
+pub mod Lent
 pub mod Sequences
 pub mod Along
 pub mod Operations

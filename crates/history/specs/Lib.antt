@@ -12,6 +12,7 @@ pub mod Messages
 pub mod Edges
 pub mod Idle
 pub mod Joined
+pub mod Lent
 pub mod Sequences
 pub mod Operations
 pub mod Lines
