@@ -9,7 +9,7 @@
 --
 -- A channel lives in one mailbox at most, so that "the mailbox where n lives" is one: `OneHouse`.
 use mathlib.Core.Path.{_≡_}
-use mathlib.Core.Bool.{Bool, false, _&&_, not}
+use mathlib.Core.Bool.{Bool, false, _&&_}
 use mathlib.Core.List.{List, [], _∷_}
 use mathlib.Core.Logic.{_⊎_}
 use Prim.Native.Nat.{ℕ, suc, _+_, _<_}
@@ -22,7 +22,7 @@ use Rattle.cap.specs.declared.CapId.{CapId}
 use Rattle.cap.specs.declared.CapRights.{CapRights}
 use Rattle.cap.specs.declared.slot.Slot.{Slot}
 use Rattle.ipc.specs.Opening.{openingOf, eitherOf, anyRightOf, holdOf}
-use Rattle.ipc.specs.Receive.{sameTask}
+use Rattle.ipc.specs.Receive.{otherWaits}
 use Rattle.ipc.specs.Views.{queueOf, waiterOf, holdsOf, ephemeralOf, Alike, OnlyCounts}
 use Rattle.ipc.specs.declared.state.Channel.{Channel}
 use Rattle.ipc.specs.declared.state.Message.{Message}
@@ -70,7 +70,7 @@ oldestOf (m ∷ ms) = Received m
 -- a park's answer, by what waits in the mailbox, whether it is ephemeral, its holds and its waiter
 unfoldable pub parkBy : TaskId → List Message → Bool → ℕ → Waiter → ParkAnswer
 parkBy task (m ∷ ms) ephemeral n x = Given m
-parkBy task [] ephemeral n x = pick (ephemeral && eqb n 0) Cancelled (pick (x .present && not (sameTask (x .task) task)) Busy Parked)
+parkBy task [] ephemeral n x = pick (ephemeral && eqb n 0) Cancelled (pick (otherWaits x task) Busy Parked)
 
 -- how a mailbox answers each call with an id
 abbrev pub sendAt : Table → ℕ → Answer
