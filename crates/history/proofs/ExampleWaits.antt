@@ -20,7 +20,7 @@ use Rattle.ipc.specs.Receive.{recvOf, parkOf, waiting}
 use Rattle.ipc.specs.Holds.{fourOf, registered, registeredAll, registerOf, released, releasedAll, releaseOf}
 use Rattle.ipc.specs.Revoke.{killed, wiped, revokeOf}
 use Rattle.ipc.specs.Waiters.{withoutWaiter, clearOf}
-use Rattle.ipc.specs.Opening.{openOf, openAny, openHold, opened, openingOf, anyRightOf, holdOf}
+use Rattle.ipc.specs.Opening.{openOf, openAny, opened, openingOf, anyRightOf, holdOf}
 use Rattle.ipc.specs.Views.{heldBy, heldIn}
 use Rattle.ipc.specs.declared.state.Message.{Message}
 use Rattle.ipc.specs.declared.state.TaskId.{TaskId}
@@ -137,7 +137,7 @@ record Computed : Type 0 where
   pub other-names : says both (call.send sender₂ hello) ≡ call.sent (send.the-variants.Sent (waiting task₂))
 
 computed : Computed
-unfolding answer after step run onCreation ifCreated but createOf sendOf recvOf parkOf registerOf registeredAll registered releaseOf releasedAll released revokeOf killed wiped clearOf withoutWaiter openingOf openOf openHold openAny holdOf anyRightOf opened pick found lowest lowestFree every count slotsOf orVacant readWord nextGeneration raised heldBy heldIn leads ends takesLast waitsEnded turnOf
+unfolding answer after step run onCreation ifCreated but createOf sendOf recvOf parkOf registerOf registeredAll registered releaseOf releasedAll released revokeOf killed wiped clearOf withoutWaiter openingOf openOf openAny holdOf anyRightOf opened pick found lowest lowestFree every count slotsOf orVacant readWord nextGeneration raised heldBy heldIn leads ends takesLast waitsEnded turnOf
 computed =
     record {
       parks = refl;

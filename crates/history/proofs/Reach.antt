@@ -1,6 +1,6 @@
 -- Where an id opens one channel or nothing, each call with it is answered by that channel's mailbox or refused. Assumes nothing.
 use mathlib.Core.Path.{_≡_, refl, sym, ap, subst, _∙_}
-use mathlib.Core.Bool.{Bool, true, false, _&&_, not}
+use mathlib.Core.Bool.{Bool, true, false, _&&_}
 use Prim.Native.Nat.{ℕ, zero, suc}
 use native.Mathlib.Omega.{arith}
 use borrow.Author.Tests.{eq-eqb, ne-eqb, lt-ltb}
@@ -16,7 +16,7 @@ use Rattle.ipc.specs.Answers.{sendNumber, sendValues, recvNumber, recvValues, p
 use Rattle.ipc.specs.Counts.{authorityRaised, stateRaised}
 use Rattle.ipc.specs.Opening.{openingOf, eitherOf, opened}
 use Rattle.ipc.specs.Send.{sendOf}
-use Rattle.ipc.specs.Receive.{recvOf, parkOf, sameTask, oldest, takenFrom, parkedIn}
+use Rattle.ipc.specs.Receive.{recvOf, parkOf, otherWaits, oldest, takenFrom, parkedIn}
 use Rattle.ipc.specs.Revoke.{revokeOf}
 use Rattle.ipc.specs.Views.{ringFrom, queueOf, waiterOf, holdsOf, ephemeralOf, Alike, OnlyCounts}
 use Rattle.ipc.specs.declared.state.Message.{Message}
@@ -62,7 +62,7 @@ module _ (t : Table) (c : CapId) (task : TaskId) (k : ℕ) where
   abbrev unsaid : Parking
   unsaid =
       pick (ephemeralOf t k && eqb (holdsOf t k) 0) (record { answer = Cancelled; table = t })
-      (pick (waiterOf t k .present && not (sameTask (waiterOf t k .task) task)) (record { answer = Busy; table = stateRaised t })
+      (pick (otherWaits (waiterOf t k) task) (record { answer = Busy; table = stateRaised t })
       (record { answer = Parked; table = parkedIn t k task }))
 
   -- n messages wait
@@ -70,7 +70,7 @@ module _ (t : Table) (c : CapId) (task : TaskId) (k : ℕ) where
       pick {A = Parking} (ltb 0 n) (record { answer = Given (oldest t k); table = takenFrom t k }) unsaid .answer
       ≡ parkBy task (ringFrom (messageAt t k) (t .sizes .depth) (mailboxAt t k .tail) n) (ephemeralOf t k) (holdsOf t k) (waiterOf t k)
   unfolding parkBy ringFrom pick
-  by-length zero = park-choice (ephemeralOf t k && eqb (holdsOf t k) 0) (waiterOf t k .present && not (sameTask (waiterOf t k .task) task)) _ _ _
+  by-length zero = park-choice (ephemeralOf t k && eqb (holdsOf t k) 0) (otherWaits (waiterOf t k) task) _ _ _
   by-length (suc n) = rw (lt-ltb 0 (suc n) (omega arith))
 
   park-answers : openingOf t c receiveRight ≡ Opens k → parkOf t c task .answer ≡ parkBy task (queueOf t k) (ephemeralOf t k) (holdsOf t k) (waiterOf t k)

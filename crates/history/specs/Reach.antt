@@ -18,7 +18,7 @@ use Rattle.cap.specs.declared.CapId.{CapId}
 use Rattle.cap.specs.declared.slot.Slot.{Slot}
 use Rattle.cap.specs.declared.word.WordAnswer.the-variants.{Reads}
 use Rattle.ipc.specs.Holds.{registered, registeredAll, Freed, released, releasedAll}
-use Rattle.ipc.specs.Receive.{sameTask}
+use Rattle.ipc.specs.Receive.{otherWaits}
 use Rattle.ipc.specs.Views.{queueOf, waiterOf, holdsOf, ephemeralOf, Alike, OnlyMailbox, OnlyCounts}
 use Rattle.ipc.specs.declared.state.Message.{Message}
 use Rattle.ipc.specs.declared.state.TaskId.{TaskId}
@@ -46,7 +46,7 @@ oldestOf (m ∷ ms) = Received m
 -- a park's answer, by what waits in the mailbox, whether it is ephemeral, its holds and its waiter
 unfoldable pub parkBy : TaskId → List Message → Bool → ℕ → Waiter → ParkAnswer
 parkBy task (m ∷ ms) ephemeral n x = Given m
-parkBy task [] ephemeral n x = pick (ephemeral && eqb n 0) Cancelled (pick (x .present && not (sameTask (x .task) task)) Busy Parked)
+parkBy task [] ephemeral n x = pick (ephemeral && eqb n 0) Cancelled (pick (otherWaits x task) Busy Parked)
 
 -- how a mailbox answers each call with an id
 abbrev pub sendAt : Table → ℕ → Answer
