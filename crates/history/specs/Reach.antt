@@ -4,7 +4,7 @@
 --   the lists of a register and a release    `Touches`: the slot's own step changes that mailbox alone, or nothing; `AlikeBut`: so other
 --                                            mailboxes are changed by the other ids of the list alone
 use mathlib.Core.Path.{_≡_}
-use mathlib.Core.Bool.{Bool, _&&_, not}
+use mathlib.Core.Bool.{Bool, _&&_}
 use mathlib.Core.List.{List, [], _∷_}
 use mathlib.Core.Logic.{_⊎_}
 use Prim.Native.Nat.{ℕ}
