@@ -22,6 +22,11 @@ written out at text = pick (fits out at text) (take at out ++ (text ++ drop (at 
 unfoldable pub putOf : List ℕ → ℕ → List ℕ → Written
 putOf out at text = pick (fits out at text) (Upto (at + length text)) NoRoom
 
+-- what a writer answers that was lent the tail from `at` on, as a place of the whole buffer
+unfoldable pub fromTail : ℕ → Written → Written
+fromTail at (Upto n) = Upto (at + n)
+fromTail at NoRoom = NoRoom
+
 abbrev pub writtenNumber : Written → ℕ
 writtenNumber (Upto n) = no.accepted
 writtenNumber NoRoom = no.noRoom

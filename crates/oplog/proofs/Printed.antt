@@ -92,7 +92,7 @@ module _ (out : List ℕ) (at number offset : ℕ) (p : Place) (w : at ≤ lengt
   unfolding lastOf
   last-inside = written-inside (putOf out at line) refl
 
-ran-inside : (log out : List ℕ) (before : ℕ) (t : Tables) → runOf log before out t .answer .at ≤ length (runOf log before out t .buffer)
+pub ran-inside : (log out : List ℕ) (before : ℕ) (t : Tables) → runOf log before out t .answer .at ≤ length (runOf log before out t .buffer)
 ran-inside log out before t =
     let z : length log - length log ≡ 0 = omega arith in
     run-prints log 0 (length log) log before out 0 t (omega arith) (omega arith) (rw z refl) (omega arith) .within

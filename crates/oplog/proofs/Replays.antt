@@ -1,7 +1,7 @@
 -- The ways of a replay over a lent buffer: a place that is refused, a log that is too long, no room, the last line. Assumes nothing.
 use mathlib.Core.Path.{_≡_, refl}
 use mathlib.Core.Bool.{Bool, true, false, _&&_, not}
-use mathlib.Core.List.{List}
+use mathlib.Core.List.{List, _++_}
 use Prim.Native.Nat.{ℕ, zero, suc, _+_, _-_, _<_, _≤_}
 use native.Mathlib.Omega.{arith}
 use lib.Dec.{leb}
@@ -13,9 +13,10 @@ use Rattle.laws.proofs.Cases.{all-pick}
 use Rattle.laws.proofs.Every.{and-left, and-right}
 use Rattle.ipc.specs.SoundTest.{soundTest}
 use Rattle.line.specs.Line.{endOf, badOf}
-use Rattle.line.specs.Put.{written, putOf}
+use Rattle.line.specs.Put.{written, putOf, fromTail}
 use Rattle.line.specs.declared.Written.{Written}
 use Rattle.line.specs.declared.Written.the-variants.{Upto, NoRoom as Crowded}
+use Rattle.line.proofs.Room.{whole-tail, lent}
 use Rattle.operations.specs.declared.Tables.{Tables}
 use Rattle.oplog.specs.Step.{stepNumber, writing}
 use Rattle.oplog.specs.Run.{Ended, runFrom, runOf}
@@ -25,7 +26,6 @@ use Rattle.oplog.specs.declared.StepAnswer.the-variants.{Took, NoRoom, B
 use Rattle.oplog.specs.declared.Ran.{Ran}
 use Rattle.oplog.specs.declared.replay.Place.{Place}
 use Rattle.oplog.specs.declared.replay.Part.{Part}
-use Rattle.oplog.proofs.Runs.{whole-tail}
 
 -- ---- the last line
 module _ (number offset done : ℕ) where
@@ -37,16 +37,23 @@ module _ (number offset done : ℕ) where
   unfolding lastLine pick
   is-bad e = rw (ne-eqb number 0 e) refl
 
--- w is what writing it answered, left the buffer then
-module _ (out : List ℕ) (at number offset : ℕ) (p : Place) (w : Written) (left : List ℕ) (ew : w ≡ putOf out at (lastLine number offset (p .done)))
-    (el : left ≡ written out at (lastLine number offset (p .done))) where
-  pub had-room : (next : ℕ) → w ≡ Upto next → (_≡_ {A = Part} (record { answer = Took; at = next; place = p }) (lastOf out at number offset p .part)) × (left ≡ lastOf out at number offset p .buffer)
-  unfolding lastOf writing
-  had-room next e = (rw (← ew, e) refl, rw (← ew, e) el)
+-- the tail from `at` on was lent: w is what writing that line answered, left the tail then
+module _ (out : List ℕ) (at number offset : ℕ) (p : Place) (h : at ≤ length out) (w : Written) (left : List ℕ)
+    (ew : w ≡ putOf (take (length out - at) (drop at out)) 0 (lastLine number offset (p .done)))
+    (el : left ≡ written (take (length out - at) (drop at out)) 0 (lastLine number offset (p .done))) where
+  abbrev whole : List ℕ
+  whole = take at out ++ (left ++ drop (length out - at) (drop at out))
 
-  pub crowded : w ≡ Crowded → (_≡_ {A = Part} (record { answer = NoRoom; at = at; place = p }) (lastOf out at number offset p .part)) × (left ≡ lastOf out at number offset p .buffer)
-  unfolding lastOf writing
-  crowded e = (rw (← ew, e) refl, rw (← ew, e) el)
+  back : (fromTail at w ≡ putOf out at (lastLine number offset (p .done))) × (whole ≡ written out at (lastLine number offset (p .done)))
+  back = lent out at (lastLine number offset (p .done)) h ew el
+
+  pub had-room : (n : ℕ) → w ≡ Upto n → (_≡_ {A = Part} (record { answer = Took; at = at + n; place = p }) (lastOf out at number offset p .part)) × (whole ≡ lastOf out at number offset p .buffer)
+  unfolding lastOf writing fromTail
+  had-room n e = (rw (← back .0, e) refl, rw (← back .0, e) (back .1))
+
+  pub crowded : w ≡ Crowded → (_≡_ {A = Part} (record { answer = NoRoom; at = at; place = p }) (lastOf out at number offset p .part)) × (whole ≡ lastOf out at number offset p .buffer)
+  unfolding lastOf writing fromTail
+  crowded e = (rw (← back .0, e) refl, rw (← back .0, e) (back .1))
 
 -- ---- a run ends inside its log
 run-within : (all k : ℕ) (rest : List ℕ) (done : ℕ) (out : List ℕ) (at : ℕ) (t : Tables) → runFrom all k rest done out at t .answer .offset ≤ all
