@@ -74,7 +74,7 @@ pub fn step(log: &[u8], number: u64, out: &mut [u8], at: usize, t: Tables) -> St
                     tables: t,
                 };
             }
-            let done = operations::apply(op, t, log);
+            let done = operations::inner::apply(op, t, log);
             let values = done.values;
             let after = done.tables;
             if out.len() < at {

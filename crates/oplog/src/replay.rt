@@ -39,7 +39,7 @@ pub fn start() -> Place
         endpoints: 64,
         depth: 8,
     };
-    let made = operations::channels::all_fresh(sizes);
+    let made = operations::all_fresh(sizes);
     let tables = made.tables;
     Place {
         offset: 0,
