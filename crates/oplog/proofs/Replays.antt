@@ -21,7 +21,7 @@ use Rattle.operations.specs.declared.Tables.{Tables}
 use Rattle.oplog.specs.Step.{stepNumber, writing}
 use Rattle.oplog.specs.Run.{Ended, runFrom, runOf}
 use Rattle.oplog.specs.Text.{most}
-use Rattle.oplog.specs.Replay.{reachable, lastLine, lastOf, placeOf, endingOf, ranOf, replayOf}
+use Rattle.oplog.specs.Replay.{placeFits, lastLine, lastOf, placeOf, endingOf, ranOf, replayOf}
 use Rattle.oplog.specs.declared.StepAnswer.the-variants.{Took, NoRoom, BadTable}
 use Rattle.oplog.specs.declared.Ran.{Ran}
 use Rattle.oplog.specs.declared.replay.Place.{Place}
@@ -67,7 +67,7 @@ run-within all (suc k) rest done out at t =
 pub ran-within : (log : List ℕ) (before : ℕ) (out : List ℕ) (t : Tables) {r : Ran} → r ≡ runOf log before out t .answer → r .offset ≤ length log
 ran-within log before out t e = rw e (run-within (length log) (length log) log before out 0 t)
 
--- ---- the calls: q is what the soundness test answered, and the code asks whether the place can not be reached
+-- ---- the calls: q is what the soundness test answered, and the code asks whether the place does not fit
 module _ (log out : List ℕ) (p : Place) (q : Bool) (es : q ≡ soundTest (p .tables .channels)) where
   abbrev placed : Bool
   placed = leb (p .offset) (length log) && leb (p .done) (p .offset)
@@ -77,11 +77,11 @@ module _ (log out : List ℕ) (p : Place) (q : Bool) (es : q ≡ soundTest (p .t
 
   pub refuses : not tested ≡ true → (_≡_ {A = Part} (record { answer = BadTable; at = 0; place = p }) (replayOf log out p .part)) × (out ≡ replayOf log out p .buffer)
   unfolding replayOf pick
-  refuses e = let h : reachable log p ≡ false = rw (← es) (not-true tested e) in (rw h refl, rw h refl)
+  refuses e = let h : placeFits log p ≡ false = rw (← es) (not-true tested e) in (rw h refl, rw h refl)
 
   module _ (e : not tested ≡ false) where
-    reaches : reachable log p ≡ true
-    reaches = rw (← es) (not-false tested e)
+    fits : placeFits log p ≡ true
+    fits = rw (← es) (not-false tested e)
 
     pub inside : p .offset ≤ length log
     inside = leb-true _ _ (and-left _ (leb (p .done) (p .offset)) (and-left placed q (not-false tested e)))
@@ -95,7 +95,7 @@ module _ (log out : List ℕ) (p : Place) (q : Bool) (es : q ≡ soundTest (p .t
     pub too-long : {r : Part} {left : List ℕ} → most < length log → r ≡ lastOf out 0 no.tooLong most p .part → left ≡ lastOf out 0 no.tooLong most p .buffer
         → (r ≡ replayOf log out p .part) × (left ≡ replayOf log out p .buffer)
     unfolding replayOf pick
-    too-long l er el = (rw (reaches, lt-ltb most (length log) l) er, rw (reaches, lt-ltb most (length log) l) el)
+    too-long l er el = (rw (fits, lt-ltb most (length log) l) er, rw (fits, lt-ltb most (length log) l) el)
 
     -- r is how the run over the rest of the log ended, left the buffer then
     module _ (l : length log ≤ most) (r : Ran) (left : List ℕ) (er : r ≡ runOf (take (length log - p .offset) (drop (p .offset) log)) (p .done) out (p .tables) .answer)
@@ -105,7 +105,7 @@ module _ (log out : List ℕ) (p : Place) (q : Bool) (es : q ≡ soundTest (p .t
 
       ending : endingOf (p .offset) (ranOf log out p) ≡ replayOf log out p
       unfolding replayOf pick
-      ending = rw (reaches, le-ltb most (length log) l) refl
+      ending = rw (fits, le-ltb most (length log) l) refl
 
       pub no-room : stepNumber (r .answer) ≡ no.noRoom
           → (_≡_ {A = Part} (record { answer = NoRoom; at = r .at; place = placeOf (p .offset) r }) (replayOf log out p .part)) × (left ≡ replayOf log out p .buffer)

@@ -79,7 +79,8 @@ fn last(out: &mut [u8], at: usize, number: u8, offset: usize, place: Place) -> P
     }
 }
 
-// The next part of what the log's replay prints.
+// The next part of what the log's replay prints. 27 where the place does not fit the log: an offset past its end, more records than bytes
+// before it, or an unsound channel table. 28 is no answer but the line that is printed of too long a log.
 pub fn replay(log: &[u8], out: &mut [u8], from: Place) -> Part
     ensures answer { λ r. ⌜ r ≡ replayOf (now (log .entry)) (now (out .entry)) from .part ⌝ }
     ensures buffer { λ _. ⌜ now (out .exit) ≡ replayOf (now (log .entry)) (now (out .entry)) from .buffer ⌝ }
