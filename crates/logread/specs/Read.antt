@@ -33,8 +33,15 @@ readOf log =
     (pick (ltb (length log) (3 + lengthOf (byteAt log 2))) Short
     (Whole (byteAt log 2) (3 + lengthOf (byteAt log 2)))))))
 
+-- ---- the answer's number and values
 abbrev pub readNumber : Read → ℕ
 readNumber (Whole op len) = no.accepted
 readNumber Short = no.short
 readNumber BadMark = no.badMark
 readNumber BadOp = no.badOp
+
+abbrev pub readValues : Read → List ℕ
+readValues (Whole op len) = op ∷ len ∷ []
+readValues Short = []
+readValues BadMark = []
+readValues BadOp = []

@@ -14,12 +14,12 @@ use Rattle.line.specs.declared.Written.{Written}
 use Rattle.line.specs.declared.Written.the-variants.{Upto, NoRoom as Crowded}
 use Rattle.oplog.specs.Step.{stepNumber, writing}
 use Rattle.oplog.specs.Text.{most, textAt, startOf}
-use Rattle.oplog.specs.Replay.{reachable, Filled, filled, lastLine, lastOf, endingOf, ranOf, replayOf, Placed, Prints}
+use Rattle.oplog.specs.Replay.{placeFits, Filled, filled, lastLine, lastOf, endingOf, ranOf, replayOf, Placed, Prints}
 use Rattle.oplog.specs.Replay as whole
 use Rattle.oplog.specs.Ends.{PrintsInto, last, next, Roomy, PartsEnd, ReplaysEnd}
 use Rattle.oplog.specs.declared.StepAnswer.the-variants.{Took, NoRoom}
 use Rattle.oplog.specs.declared.replay.Place.{Place}
-use Rattle.oplog.proofs.Printed.{reached, continues, start-placed}
+use Rattle.oplog.proofs.Printed.{fits, continues, start-placed}
 use Rattle.oplog.proofs.Progress.{moves-on}
 
 -- ---- a part is the last one, or ends for want of room
@@ -40,10 +40,10 @@ last-answered out at number offset p = by (putOf out at line)
 answered : (log : List ℕ) (p : Place) → Placed log p → (out : List ℕ) → Answered (replayOf log out p)
 unfolding replayOf endingOf
 answered log p h out =
-    all-pick Answered (reachable log p) _ _ (λ _.
+    all-pick Answered (placeFits log p) _ _ (λ _.
     all-pick Answered (ltb most (length log)) _ _ (λ _. last-answered out 0 no.tooLong most p) (λ _.
     all-pick Answered (eqb (stepNumber (ranOf log out p .answer .answer)) no.noRoom) _ _ (λ _. inr refl) (λ _. last-answered _ _ _ _ _)))
-    (λ f. absurd (not-both _ (reached log p h out) f))
+    (λ f. absurd (not-both _ (fits log p h out) f))
 
 -- ---- all parts
 module _ (log : List ℕ) (supply : ℕ → List ℕ) (roomy : Roomy supply) where

@@ -23,7 +23,7 @@ use Rattle.logread.specs.declared.Read as read
 use Rattle.oplog.specs.Step.{stepNumber, operandsOk, reading, writing, textOf, refusedStep, stepOf, stepOut}
 use Rattle.oplog.specs.Run.{Ended, runFrom}
 use Rattle.oplog.specs.Text.{most}
-use Rattle.oplog.specs.Replay.{reachable, Filled, filled, lastLine, lastOf, placeOf, endingOf, ranOf, replayOf}
+use Rattle.oplog.specs.Replay.{placeFits, Filled, filled, lastLine, lastOf, placeOf, endingOf, ranOf, replayOf}
 use Rattle.oplog.specs.declared.StepAnswer.the-variants.{Took, Short, BadMark, BadOp, BadOperand, NoRoom}
 use Rattle.oplog.specs.declared.Stepped.{Stepped}
 use Rattle.oplog.specs.declared.replay.Place.{Place}
@@ -147,7 +147,7 @@ module _ (log out : List ℕ) (p : Place) (h : 315 ≤ length out) where
   pub moves-on : Onward (replayOf log out p)
   unfolding replayOf endingOf
   moves-on =
-      all-pick Onward (reachable log p) _ _ (λ _.
+      all-pick Onward (placeFits log p) _ _ (λ _.
       all-pick Onward (ltb most (length log)) _ _ (λ _ z. absurd (last-room out 0 no.tooLong most p (omega arith) z)) (λ _.
       all-pick Onward (eqb (stepNumber (e .answer .answer)) no.noRoom) _ _ (λ n _. let c = forward .crowded (eqb-true _ _ n) in omega arith) (λ _. closes-on (e .answer .offset) refl)))
       (λ _ z. absurd (let y : _≡_ {A = ℕ} 27 26 = ap stepNumber z in omega arith))

@@ -4,12 +4,12 @@ use mathlib.Core.List.{List}
 use Prim.Native.Nat.{ℕ, zero, suc, _+_, _-_, _<_, _≤_}
 use native.Mathlib.Omega.{arith}
 use lib.ListN.{length, take, drop, length-drop}
-use lib.Seq.{take-all}
 use borrow.Author.Tests.{lt-ltb, le-ltb, eq-eqb, ne-eqb}
 use Rattle.laws.specs.Pick.{pick}
 use Rattle.laws.proofs.Cases.{all-pick}
 use Rattle.line.specs.declared.Written.{Written}
 use Rattle.line.specs.declared.Written.the-variants.{Upto, NoRoom as Crowded}
+use Rattle.line.proofs.Room.{whole-tail}
 use Rattle.logread.specs.Read.{readOf}
 use Rattle.logread.specs.declared.Read as read
 use Rattle.logread.proofs.Records.{whole}
@@ -24,9 +24,6 @@ use Rattle.oplog.specs.declared.Stepped.{Stepped}
 use Rattle.oplog.specs.declared.Ran.{Ran}
 
 -- a part to the end
-pub whole-tail : (out : List ℕ) (at : ℕ) → take (length out - at) (drop at out) ≡ drop at out
-whole-tail out at = take-all (length out - at) (drop at out) (omega (arith, length-drop at out))
-
 pub tail-long : (out : List ℕ) (at : ℕ) → length (take (length out - at) (drop at out)) ≡ length out - at
 tail-long out at = rw (whole-tail out at) (length-drop at out)
 

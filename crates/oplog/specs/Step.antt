@@ -1,7 +1,7 @@
 -- Document 01, "The operation log and what replay prints": a step reads one record and writes one line. Its faults come in the order
 -- Short, BadMark, Short, BadOp, Short, BadOperand, NoRoom; a refused step hands on the log unmoved, writes nothing and keeps the tables.
 use mathlib.Core.Bool.{Bool, true, _||_}
-use mathlib.Core.List.{List}
+use mathlib.Core.List.{List, []}
 use Prim.Native.Nat.{ℕ}
 use lib.Dec.{eqb}
 use Rattle.laws.specs.Pick.{pick}
@@ -29,6 +29,10 @@ stepNumber BadOp = no.badOp
 stepNumber BadOperand = no.badOperand
 stepNumber NoRoom = no.noRoom
 stepNumber BadTable = no.badTable
+
+-- a step's answer shows no values of its own: those of a record stand in its line
+abbrev pub stepValues : StepAnswer → List ℕ
+stepValues a = []
 
 -- BadOperand is a flag or presence byte above 1, or presence 0 with a non-zero id: create has the one flag, register and release a list,
 -- seed and spawn a list after the row

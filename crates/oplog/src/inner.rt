@@ -39,7 +39,8 @@ fn operands_ok(op: u8, log: &[u8]) -> bool
     true
 }
 
-// One record of the log, and its line from place `at` of the lent buffer on.
+// One record of the log, and its line from place `at` of the lent buffer on: the line's writer is lent the tail that is free. A place past the
+// buffer's end has no room.
 pub fn step(log: &[u8], number: u64, out: &mut [u8], at: usize, t: Tables) -> Stepped
     requires { ⌜ Sound (t .channels) ⌝ }
     ensures answer { λ r. ⌜ r ≡ stepOf (now (log .entry)) number (now (out .entry)) at t ⌝ }
@@ -73,22 +74,29 @@ pub fn step(log: &[u8], number: u64, out: &mut [u8], at: usize, t: Tables) -> St
                     tables: t,
                 };
             }
-            let done = operations::apply(op, t, log);
+            let done = operations::inner::apply(op, t, log);
             let values = done.values;
             let after = done.tables;
+            if out.len() < at {
+                return Stepped {
+                    answer: StepAnswer::NoRoom,
+                    used: 0,
+                    at,
+                    tables: t,
+                };
+            }
             match line::write_line(
-                out,
-                at,
+                &mut out[at..],
                 number,
                 op as u64,
                 done.number as u64,
                 values,
                 done.count,
             ) {
-                Written::Upto(next) => Stepped {
+                Written::Upto(n) => Stepped {
                     answer: StepAnswer::Took,
                     used: len,
-                    at: next,
+                    at: at + n,
                     tables: after,
                 },
                 Written::NoRoom => Stepped {
