@@ -1,5 +1,5 @@
 -- Document 01, "What must change shape": lists come as words, 0 vacant, 4,294,967,296 + raw present, others refused (21).
-use mathlib.Core.Bool.{Bool, true, false, _||_}
+use mathlib.Core.Bool.{Bool, _||_}
 use mathlib.Core.List.{List, [], _∷_}
 use Prim.Native.Nat.{ℕ, _+_, _/_, _%_}
 use lib.ListN.{getD, length}

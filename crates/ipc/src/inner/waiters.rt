@@ -28,7 +28,7 @@ fn waits_on(b: Mailbox, task: TaskId) -> bool
 }
 
 // Whether another task than `me` waits in the place `w`.
-pub fn other_waits(w: Waiter, me: TaskId) -> bool
+pub(crate) fn other_waits(w: Waiter, me: TaskId) -> bool
     ensures { λ r. ⌜ r ≡ otherWaits w me ⌝ }
 {
     if !w.present {
