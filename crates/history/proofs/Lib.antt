@@ -40,3 +40,4 @@ pub mod Stands
 pub mod Idle
 pub mod ExamplesJoined
 pub mod ExamplesLog
+pub mod ExamplesLines

@@ -1,6 +1,7 @@
 -- Demand 3: "From its creation, an id of channel n opens channel n or nothing until 65,535 later creations have succeeded."
 --
---   "From its creation"                      v, the world after that creation and any calls `later`, or none
+--   "From its creation"                      v, the world after that creation and any calls `later`, or none; every channel that lives has
+--                                            its creation in the run, `EachCreated`
 --   "an id of channel n"                     `IdOf`: one of the two ids that the creation answers
 --   "opens channel n or nothing"             `OpensOnly`: whatever is asked of the id, what opens is the mailbox where n lives; and by
 --                                            call, also in the lists of a register and a release, `Reach`: nothing, or that mailbox alone
@@ -43,7 +44,7 @@ pub record CreatedIn (w : World) (n : ℕ) : Type 0 where
   pub later : List Call
   pub comes : w ≡ run (step before (create ephemeral)) later
 
--- every channel that lives has one, so that what holds from a creation on holds of every channel
+-- every channel that lives has one
 abbrev pub EachCreated : Type 0
 EachCreated = (w : World) → Reached w → (n k : ℕ) → LivesIn w n k → CreatedIn w n
 
