@@ -5,10 +5,9 @@ use mathlib.Core.Path.{_≡_}
 use mathlib.Core.List.{List, [], _∷_, _++_}
 use Prim.Native.Nat.{ℕ, zero, suc, _+_, _-_, _≤_}
 use lib.ListN.{length, take, drop}
-use Rattle.laws.specs.Pick.{pick}
 use Rattle.line.specs.Line.{decimalOf, textOf, endOf, badOf}
 use Rattle.logread.specs.Read.{readOf}
-use Rattle.oplog.specs.Step.{operandsOk, reading}
+use Rattle.oplog.specs.Step.{reading}
 use Rattle.oplog.specs.Run.{runOf}
 use Rattle.oplog.specs.Text.{most, replayText}
 use Rattle.oplog.specs.declared.Ran.{Ran}
@@ -19,8 +18,7 @@ use Rattle.history.specs.Lines.{lineIn}
 unfoldable pub recordsIn : ℕ → List ℕ → List Operation
 recordsIn zero log = []
 recordsIn (suc k) log =
-    reading (readOf log) (λ _. []) (λ op len.
-    pick (operandsOk op log) (record { number = op; bytes = log } ∷ recordsIn k (drop len log)) [])
+    reading (readOf log) (λ _. []) (λ op len. record { number = op; bytes = log } ∷ recordsIn k (drop len log))
 
 -- a record takes three bytes or more
 abbrev pub recordsOf : List ℕ → List Operation

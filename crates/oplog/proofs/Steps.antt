@@ -1,12 +1,10 @@
 -- The ways of a step: each fault, a line without room, a record taken. Assumes nothing.
 use mathlib.Core.Path.{_≡_, refl, sym, ap}
-use mathlib.Core.Bool.{true, false}
 use mathlib.Core.List.{List, [], _∷_, _++_}
 use Prim.Native.Nat.{ℕ, zero, suc, _+_, _-_, _<_, _≤_}
 use native.Mathlib.Nat.{not-suc-le-zero, le-of-suc-le-suc}
 use native.Mathlib.Omega.{arith}
 use lib.ListN.{length, take, drop}
-use Rattle.laws.specs.Pick.{pick}
 use Rattle.line.specs.Line.{lineOf}
 use Rattle.line.specs.Put.{written, putOf, fromTail}
 use Rattle.line.specs.declared.Written.{Written}
@@ -20,7 +18,7 @@ use Rattle.operations.specs.Apply.{applyOf}
 use Rattle.operations.specs.declared.Tables.{Tables}
 use Rattle.operations.specs.declared.Outcome.{Outcome}
 use Rattle.operations.proofs.Applied.{apply-few}
-use Rattle.oplog.specs.Step.{operandsOk, reading, writing, textOf, refusedStep, stepOf, stepOut}
+use Rattle.oplog.specs.Step.{reading, writing, textOf, refusedStep, stepOf, stepOut}
 use Rattle.oplog.specs.declared.StepAnswer.the-variants.{Took, Short, BadMark, BadOp, BadOperand, NoRoom}
 use Rattle.oplog.specs.declared.Stepped.{Stepped}
 
@@ -47,12 +45,12 @@ module _ (log out : List ℕ) (number at : ℕ) (t : Tables) where
   unfolding stepOf stepOut reading
   bad-op e = (rw e refl, rw e refl)
 
-  module _ (op len : ℕ) (er : readOf log ≡ read.the-variants.Whole op len) where
-    pub bad-operand : operandsOk op log ≡ false → (refusedStep at t BadOperand ≡ stepOf log number out at t) × (out ≡ stepOut log number out at t)
-    unfolding stepOf stepOut reading pick
-    bad-operand e = (rw (er, e) refl, rw (er, e) refl)
+  pub bad-operand : readOf log ≡ read.the-variants.BadOperand → (refusedStep at t BadOperand ≡ stepOf log number out at t) × (out ≡ stepOut log number out at t)
+  unfolding stepOf stepOut reading
+  bad-operand e = (rw e refl, rw e refl)
 
-    module _ (d : Outcome) (eo : operandsOk op log ≡ true) (ed : d ≡ packed (applyOf op log t)) where
+  module _ (op len : ℕ) (er : readOf log ≡ read.the-variants.Whole op len) where
+    module _ (d : Outcome) (ed : d ≡ packed (applyOf op log t)) where
       abbrev line : List ℕ
       line = lineOf number op (d .number) (take (d .count) (d .values))
 
@@ -61,12 +59,12 @@ module _ (log out : List ℕ) (number at : ℕ) (t : Tables) where
 
       -- what the step comes to, from what writing the line comes to
       left-is : {left : List ℕ} → left ≡ written out at line → left ≡ stepOut log number out at t
-      unfolding stepOut reading pick
-      left-is e = rw (er, eo, ← text) e
+      unfolding stepOut reading
+      left-is e = rw (er, ← text) e
 
       crowded : putOf out at line ≡ Crowded → refusedStep at t NoRoom ≡ stepOf log number out at t
-      unfolding stepOf reading writing pick
-      crowded e = rw (er, eo, ← text, e) refl
+      unfolding stepOf reading writing
+      crowded e = rw (er, ← text, e) refl
 
       -- a place past the buffer's end
       pub past-end : length out < at → (refusedStep at t NoRoom ≡ stepOf log number out at t) × (out ≡ stepOut log number out at t)
@@ -82,8 +80,8 @@ module _ (log out : List ℕ) (number at : ℕ) (t : Tables) where
         back = room.lent out at line h ew el
 
         pub took : (n : ℕ) → w ≡ Upto n → (_≡_ {A = Stepped} (record { answer = Took; used = len; at = at + n; tables = d .tables }) (stepOf log number out at t)) × (whole ≡ stepOut log number out at t)
-        unfolding stepOf reading writing pick fromTail
-        took n e = (rw (er, eo, ← text, ← back .0, e, ed) refl, left-is (back .1))
+        unfolding stepOf reading writing fromTail
+        took n e = (rw (er, ← text, ← back .0, e, ed) refl, left-is (back .1))
 
         pub no-room : w ≡ Crowded → (refusedStep at t NoRoom ≡ stepOf log number out at t) × (whole ≡ stepOut log number out at t)
         unfolding fromTail

@@ -1,43 +1,16 @@
 // The step and the run on tables whose channel table is known to be sound.
 ghost use mathlib.Core.Path.{_≡_};
-ghost use mathlib.Core.Bool.{_||_};
 ghost use Prim.Native.Nat.{_+_, _<_, _^_};
-ghost use lib.Dec.{eqb};
 ghost use lib.ListN.{length};
-ghost use Rattle.laws.specs.Pick.{pick};
 ghost use Rattle.ipc.specs.Sound.{Sound};
 ghost use Rattle.oplog.specs.Run.{runOf};
-ghost use Rattle.oplog.specs.Step.{operandsOk, stepOf, stepOut};
+ghost use Rattle.oplog.specs.Step.{stepOf, stepOut};
 use crate::Ran;
 use crate::StepAnswer;
 use crate::Stepped;
 use line::Written;
 use logread::Read;
 use operations::Tables;
-
-// Where a list starts: that of register and release at once, that of seed and spawn after the row.
-fn list_at(op: u8) -> usize
-    ensures { λ r. ⌜ r ≡ pick (eqb op 7 || eqb op 8) 3 4 ⌝ }
-{
-    if (op == 7) | (op == 8) {
-        return 3;
-    }
-    4
-}
-
-// Refusal 25: the flag of create, and the lists of register, release, seed and spawn. One call tests all lists for the optimiser's sake:
-// with one more way through here it has `step` copy the tables before it hands them to `apply`, and a replay takes half as long again.
-fn operands_ok(op: u8, log: &[u8]) -> bool
-    ensures { λ r. ⌜ r ≡ operandsOk op (now (log .entry)) ⌝ }
-{
-    if op == 1 {
-        return logread::flag_ok(logread::byte_at(log, 3));
-    }
-    if ((op == 7) | (op == 8)) | ((op == 15) | (op == 24)) {
-        return logread::list_ok(log, list_at(op));
-    }
-    true
-}
 
 // One record of the log, and its line from place `at` of the lent buffer on: the line's writer is lent the tail that is free. A place past the
 // buffer's end has no room.
@@ -65,15 +38,13 @@ pub fn step(log: &[u8], number: u64, out: &mut [u8], at: usize, t: Tables) -> St
             at,
             tables: t,
         },
+        Read::BadOperand => Stepped {
+            answer: StepAnswer::BadOperand,
+            used: 0,
+            at,
+            tables: t,
+        },
         Read::Whole { op, len } => {
-            if !operands_ok(op, log) {
-                return Stepped {
-                    answer: StepAnswer::BadOperand,
-                    used: 0,
-                    at,
-                    tables: t,
-                };
-            }
             let done = operations::inner::apply(op, t, log);
             let values = done.values;
             let after = done.tables;

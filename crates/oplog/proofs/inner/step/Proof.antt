@@ -2,7 +2,6 @@
 use mathlib.Core.Path.{sym, _∙_}
 use Prim.Native.Nat.{_<_, _^_}
 use lib.ListN.{length}
-use borrow.Author.Tests.{not-true, not-false}
 use native.Mathlib.Omega.{arith}
 use Rattle.line.proofs.Room.{lent-within}
 use Rattle.oplog.proofs.Steps.{short, bad-mark, bad-op, bad-operand, past-end, took, no-room}
@@ -25,30 +24,21 @@ enum-told-2 c = search needs
 enum-told-3 : tie.Need-enum-told-3
 enum-told-3 c = search needs
 
+enum-told-4 : tie.Need-enum-told-4
+enum-told-4 c = search needs
+
 enum-known-op : tie.Need-enum-known-op
 enum-known-op c = search needs
-
-operands-ok-requires : tie.Need-operands-ok-requires
-operands-ok-requires c κs = search needs
-
-returns : tie.Need-returns
-returns c =
-    let o = c .before in
-    let a = o .before .before .before .before .before .before .before .args in
-    let r = sym (o .before .before .before .before .read-record .ensures) ∙ o .before .before .op .given .1 in
-    bad-operand (a .log .now) (a .out .now) (a .number) (a .at) (a .t) _ _ r (sym (o .operands-ok .ensures) ∙ not-true _ (c .if1 .taken))
 
 apply-requires : tie.Need-apply-requires
 apply-requires c κs = search needs
 
-returns-2 : tie.Need-returns-2
-returns-2 c =
+returns : tie.Need-returns
+returns c =
     let p = c .before .before .before in
-    let o = p .before .before in
-    let a = o .before .before .before .before .before .before .before .args in
-    let r = sym (o .before .before .before .before .read-record .ensures) ∙ o .before .before .op .given .1 in
-    let k = sym (o .operands-ok .ensures) ∙ not-false _ (p .before .if1 .left) in
-    past-end (a .log .now) (a .out .now) (a .number) (a .at) (a .t) _ _ r (p .apply .result) k (p .apply .ensures) (c .if2 .taken)
+    let a = p .before .before .before .before .before .before .before .args in
+    let r = sym (p .before .before .before .before .read-record .ensures) ∙ p .before .before .op .given .1 in
+    past-end (a .log .now) (a .out .now) (a .number) (a .at) (a .t) _ _ r (p .apply .result) (p .apply .ensures) (c .if1 .taken)
 
 sub-write-line : tie.Need-sub-write-line
 sub-write-line c = search needs
@@ -71,32 +61,38 @@ write-line-requires c κs = search needs
 enum-known-n : tie.Need-enum-known-n
 enum-known-n c = search needs
 
-add-t30 : tie.Need-add-t30
-add-t30 c =
+add-t29 : tie.Need-add-t29
+add-t29 c =
     let l = c .before .before .before .before .before in
-    let a = l .before .before .before .before .before .before .before .before .before .before .before .before .before .before .before .args in
-    omega (arith, buffer-bounded (l .before .before .before .before .before .before .before .before .before .before .before .before .before .before .before), lent-within (a .out .now) (a .at) _ (l .before .before .before .if2 .left) (l .write-line .ensures .0) _ (c .before .n .given .1))
+    let s = l .before .before .before .before .before .before .before .before .before .before .before .before .before in
+    omega (arith, buffer-bounded s, lent-within (s .args .out .now) (s .args .at) _ (l .before .before .before .if1 .left) (l .write-line .ensures .0) _ (c .before .n .given .1))
 
-enum-told-4 : tie.Need-enum-told-4
-enum-told-4 c = search needs
+enum-told-5 : tie.Need-enum-told-5
+enum-told-5 c = search needs
+
+returns-2 : tie.Need-returns-2
+returns-2 c =
+    let r = c .before .before in
+    let a = r .before .before .before .args in
+    short (a .log .now) (a .out .now) (a .number) (a .at) (a .t) (sym (r .read-record .ensures) ∙ c .enum-told .given .1)
 
 returns-3 : tie.Need-returns-3
 returns-3 c =
     let r = c .before .before in
     let a = r .before .before .before .args in
-    short (a .log .now) (a .out .now) (a .number) (a .at) (a .t) (sym (r .read-record .ensures) ∙ c .enum-told .given .1)
+    bad-mark (a .log .now) (a .out .now) (a .number) (a .at) (a .t) (sym (r .read-record .ensures) ∙ c .enum-told2 .given .1)
 
 returns-4 : tie.Need-returns-4
 returns-4 c =
     let r = c .before .before in
     let a = r .before .before .before .args in
-    bad-mark (a .log .now) (a .out .now) (a .number) (a .at) (a .t) (sym (r .read-record .ensures) ∙ c .enum-told2 .given .1)
+    bad-op (a .log .now) (a .out .now) (a .number) (a .at) (a .t) (sym (r .read-record .ensures) ∙ c .enum-told3 .given .1)
 
 returns-5 : tie.Need-returns-5
 returns-5 c =
     let r = c .before .before in
     let a = r .before .before .before .args in
-    bad-op (a .log .now) (a .out .now) (a .number) (a .at) (a .t) (sym (r .read-record .ensures) ∙ c .enum-told3 .given .1)
+    bad-operand (a .log .now) (a .out .now) (a .number) (a .at) (a .t) (sym (r .read-record .ensures) ∙ c .enum-told4 .given .1)
 
 same-length : tie.Need-same-length
 same-length c = search needs
@@ -105,11 +101,9 @@ returns-6 : tie.Need-returns-6
 returns-6 c =
     let l = c .before .before .before .before .before in
     let p = l .before .before .before .before .before .before in
-    let o = p .before .before in
-    let a = o .before .before .before .before .before .before .before .args in
-    let r = sym (o .before .before .before .before .read-record .ensures) ∙ o .before .before .op .given .1 in
-    let k = sym (o .operands-ok .ensures) ∙ not-false _ (p .before .if1 .left) in
-    took (a .log .now) (a .out .now) (a .number) (a .at) (a .t) _ _ r (p .apply .result) k (p .apply .ensures) (l .before .before .before .if2 .left) (l .write-line .last .0) (l .write-line .result) (l .write-line .ensures .0) (l .write-line .ensures .1) _ (c .before .n .given .1)
+    let a = p .before .before .before .before .before .before .before .args in
+    let r = sym (p .before .before .before .before .read-record .ensures) ∙ p .before .before .op .given .1 in
+    took (a .log .now) (a .out .now) (a .number) (a .at) (a .t) _ _ r (p .apply .result) (p .apply .ensures) (l .before .before .before .if1 .left) (l .write-line .last .0) (l .write-line .result) (l .write-line .ensures .0) (l .write-line .ensures .1) _ (c .before .n .given .1)
 
 same-length-2 : tie.Need-same-length-2
 same-length-2 c = search needs
@@ -118,11 +112,9 @@ returns-7 : tie.Need-returns-7
 returns-7 c =
     let l = c .before .before .before .before in
     let p = l .before .before .before .before .before .before in
-    let o = p .before .before in
-    let a = o .before .before .before .before .before .before .before .args in
-    let r = sym (o .before .before .before .before .read-record .ensures) ∙ o .before .before .op .given .1 in
-    let k = sym (o .operands-ok .ensures) ∙ not-false _ (p .before .if1 .left) in
-    no-room (a .log .now) (a .out .now) (a .number) (a .at) (a .t) _ _ r (p .apply .result) k (p .apply .ensures) (l .before .before .before .if2 .left) (l .write-line .last .0) (l .write-line .result) (l .write-line .ensures .0) (l .write-line .ensures .1) (c .enum-told4 .given .1)
+    let a = p .before .before .before .before .before .before .before .args in
+    let r = sym (p .before .before .before .before .read-record .ensures) ∙ p .before .before .op .given .1 in
+    no-room (a .log .now) (a .out .now) (a .number) (a .at) (a .t) _ _ r (p .apply .result) (p .apply .ensures) (l .before .before .before .if1 .left) (l .write-line .last .0) (l .write-line .result) (l .write-line .ensures .0) (l .write-line .ensures .1) (c .enum-told5 .given .1)
 
 pub step-spec : {M : Type 1} → statement M
 step-spec =
@@ -132,11 +124,10 @@ step-spec =
     enum-told
     enum-told-2
     enum-told-3
+    enum-told-4
     enum-known-op
-    operands-ok-requires
-    returns
     apply-requires
-    returns-2
+    returns
     sub-write-line
     part-write-line-start
     part-write-line-end
@@ -144,8 +135,9 @@ step-spec =
     cast-write-line-2
     write-line-requires
     enum-known-n
-    add-t30
-    enum-told-4
+    add-t29
+    enum-told-5
+    returns-2
     returns-3
     returns-4
     returns-5
