@@ -49,40 +49,40 @@ module _ (log out : List ℕ) (number at : ℕ) (t : Tables) where
   unfolding stepOf stepOut reading
   bad-operand e = (rw e refl, rw e refl)
 
-  module _ (op len : ℕ) (er : readOf log ≡ read.the-variants.Whole op len) where
-    module _ (d : Outcome) (ed : d ≡ packed (applyOf op log t)) where
-      abbrev line : List ℕ
-      line = lineOf number op (d .number) (take (d .count) (d .values))
+  -- d is what the operation came to
+  module _ (op len : ℕ) (er : readOf log ≡ read.the-variants.Whole op len) (d : Outcome) (ed : d ≡ packed (applyOf op log t)) where
+    abbrev line : List ℕ
+    line = lineOf number op (d .number) (take (d .count) (d .values))
 
-      text : line ≡ textOf number op (applyOf op log t)
-      text = rw (ed, shown (applyOf op log t .values) (apply-few log t op))
+    text : line ≡ textOf number op (applyOf op log t)
+    text = rw (ed, shown (applyOf op log t .values) (apply-few log t op))
 
-      -- what the step comes to, from what writing the line comes to
-      left-is : {left : List ℕ} → left ≡ written out at line → left ≡ stepOut log number out at t
-      unfolding stepOut reading
-      left-is e = rw (er, ← text) e
+    -- what the step comes to, from what writing the line comes to
+    left-is : {left : List ℕ} → left ≡ written out at line → left ≡ stepOut log number out at t
+    unfolding stepOut reading
+    left-is e = rw (er, ← text) e
 
-      crowded : putOf out at line ≡ Crowded → refusedStep at t NoRoom ≡ stepOf log number out at t
-      unfolding stepOf reading writing
-      crowded e = rw (er, ← text, e) refl
+    crowded : putOf out at line ≡ Crowded → refusedStep at t NoRoom ≡ stepOf log number out at t
+    unfolding stepOf reading writing
+    crowded e = rw (er, ← text, e) refl
 
-      -- a place past the buffer's end
-      pub past-end : length out < at → (refusedStep at t NoRoom ≡ stepOf log number out at t) × (out ≡ stepOut log number out at t)
-      past-end h = let r = room.no-room out at line (omega arith) in (crowded (sym (r .0)), left-is (r .1))
+    -- a place past the buffer's end
+    pub past-end : length out < at → (refusedStep at t NoRoom ≡ stepOf log number out at t) × (out ≡ stepOut log number out at t)
+    past-end h = let r = room.no-room out at line (omega arith) in (crowded (sym (r .0)), left-is (r .1))
 
-      -- the tail was lent: w is what its writer answered, left the tail then
-      module _ (h : at ≤ length out) (left : List ℕ) (w : Written) (ew : w ≡ putOf (take (length out - at) (drop at out)) 0 line)
-          (el : left ≡ written (take (length out - at) (drop at out)) 0 line) where
-        abbrev whole : List ℕ
-        whole = take at out ++ (left ++ drop (length out - at) (drop at out))
+    -- the tail was lent: w is what its writer answered, left the tail then
+    module _ (h : at ≤ length out) (left : List ℕ) (w : Written) (ew : w ≡ putOf (take (length out - at) (drop at out)) 0 line)
+        (el : left ≡ written (take (length out - at) (drop at out)) 0 line) where
+      abbrev whole : List ℕ
+      whole = take at out ++ (left ++ drop (length out - at) (drop at out))
 
-        back : (fromTail at w ≡ putOf out at line) × (whole ≡ written out at line)
-        back = room.lent out at line h ew el
+      back : (fromTail at w ≡ putOf out at line) × (whole ≡ written out at line)
+      back = room.lent out at line h ew el
 
-        pub took : (n : ℕ) → w ≡ Upto n → (_≡_ {A = Stepped} (record { answer = Took; used = len; at = at + n; tables = d .tables }) (stepOf log number out at t)) × (whole ≡ stepOut log number out at t)
-        unfolding stepOf reading writing fromTail
-        took n e = (rw (er, ← text, ← back .0, e, ed) refl, left-is (back .1))
+      pub took : (n : ℕ) → w ≡ Upto n → (_≡_ {A = Stepped} (record { answer = Took; used = len; at = at + n; tables = d .tables }) (stepOf log number out at t)) × (whole ≡ stepOut log number out at t)
+      unfolding stepOf reading writing fromTail
+      took n e = (rw (er, ← text, ← back .0, e, ed) refl, left-is (back .1))
 
-        pub no-room : w ≡ Crowded → (refusedStep at t NoRoom ≡ stepOf log number out at t) × (whole ≡ stepOut log number out at t)
-        unfolding fromTail
-        no-room e = (crowded (rw (← back .0, e) refl), left-is (back .1))
+      pub no-room : w ≡ Crowded → (refusedStep at t NoRoom ≡ stepOf log number out at t) × (whole ≡ stepOut log number out at t)
+      unfolding fromTail
+      no-room e = (crowded (rw (← back .0, e) refl), left-is (back .1))
