@@ -7,9 +7,9 @@
     ./replay -h             this
 
 A FILE is the document's hex (one record a line, what follows a # is a comment) where its first byte that is no blank is a hex digit
-or a #, whether or not a byte-order mark stands before it. Otherwise it is a log's bytes: these start with 4B 43, which as text is "KC" and no
-hex. Of bytes the first 65,537 are read, which is enough to know a log that is too long, and hex up to 4,194,304 bytes, comments and all.
-docs/LOG.md has the format.
+or a #, whether or not a byte-order mark stands before it. Otherwise it is a log's bytes: these start with 4B 43, which as text is "KC"
+and no hex. Of bytes the first 65,537 are read, which is enough to know a log that is too long, and of hex 4,194,304 bytes at most,
+comments and all. docs/LOG.md has the format.
 
 target/bin/replay plays the log; rt check replay proves and builds it first where it is missing or a source has changed. On a processor
 other than x86-64 it runs under an emulator (tools/run). REPLAY is another command to run in its place.

@@ -62,7 +62,7 @@ left-is BadRow e = absurd (omega arith)
 left-is BadTable e = absurd (omega arith)
 
 -- ---- what the line of an operation says when one of its calls ends a wait
-pub record Ends (t : Tables) (log : List ℕ) (k : ℕ) (x : TaskId) (line : List ℕ) (behind : List Call) : Type 0 where
+pub record Ending (t : Tables) (log : List ℕ) (k : ℕ) (x : TaskId) (line : List ℕ) (behind : List Call) : Type 0 where
   pub named : NamesTask t log k x line ⊎ ClearsTask log x line
   -- it makes no call after that
   pub last : behind ≡ []
@@ -77,7 +77,7 @@ module _ (log : List ℕ) (t : Tables) where
 
   -- calls of which the first that ends a wait has the task in the line
   abbrev Namer : List ℕ → List Call → Type 0
-  Namer line cs = (w : World) → w .table ≡ t .channels → (n k : ℕ) (x : TaskId) (f : First w n k x cs) → Told (run w (f .before) .table) k x (f .call) → Ends t log k x line (f .behind)
+  Namer line cs = (w : World) → w .table ≡ t .channels → (n k : ℕ) (x : TaskId) (f : First w n k x cs) → Told (run w (f .before) .table) k x (f .call) → Ending t log k x line (f .behind)
 
   abbrev NamerAt : ℕ → Done → List Call → Type 0
   NamerAt op d cs = Namer (op ∷ d .number ∷ d .values) cs
@@ -187,7 +187,7 @@ module _ (log : List ℕ) (t : Tables) where
         end
 
 pub names : (s : Logged) → Follows s → (o : Operation) (n k : ℕ) (x : TaskId) (f : First (s .world) n k x (callsOf o (s .tables))) →
-    Names (run (s .world) (f .before) .table) k x (f .call) ⊎ Clears x (f .call) → Ends (s .tables) (o .bytes) k x (lineIn s o) (f .behind)
+    Names (run (s .world) (f .before) .table) k x (f .call) ⊎ Clears x (f .call) → Ending (s .tables) (o .bytes) k x (lineIn s o) (f .behind)
 unfolding applyOf callsOf
 names s h o =
     let t = s .tables in
