@@ -43,16 +43,25 @@ def name(operation):
 
 def say(line):
     """One line of a replay in words."""
+    first, *rest = line.split() or [""]
+    kind, numbers = (first, rest) if first in KINDS else ("", [first, *rest])
     try:
-        match line.split():
-            case ["end", records]:
-                return f"the log ends after {counted(int(records), 'record')}"
-            case ["bad", offset, number]:
-                return f"the log cannot be read from offset {int(offset)} on: {refusal(int(number))}"
-            case words:
-                return answered(*map(int, words))
+        # digits alone: int takes signs, underscores and other scripts too
+        if not all(number.isascii() and number.isdigit() for number in numbers):
+            raise ValueError
+        return KINDS[kind](*map(int, numbers))
     except (ValueError, IndexError, TypeError):
         return "this is no line of a replay"
+
+
+def ended(records):
+    return f"the log ends after {counted(records, 'record')}"
+
+
+def faulty(offset, number):
+    if number == 28:
+        return f"nothing was read, the log is longer than {offset:,} bytes: {refusal(number)}"
+    return f"the log cannot be read from offset {offset} on: {refusal(number)}"
 
 
 def answered(record, operation, number, *values):
@@ -67,7 +76,7 @@ def refusal(number):
 def refused(operation, number, values):
     said = f"refused, {refusal(number)}"
     if number == 8:
-        said += f": slot {values[0]} of {values[1]}"
+        said += f": slot {values[0]} of {values[1]}" if values[1] else f": slot {values[0]} of a row that is not there"
     if number == 9:
         said += f": slot {values[0]}"
     count = RAISED.get((operation, number))
@@ -81,35 +90,34 @@ def accepted(operation, values):
 
 def shown(operation, values):
     """The values of an accepted operation."""
-    match operation:
-        case 1:
-            return f"send id {values[0]}, receive id {values[1]}"
-        case 2 | 6 | 8 | 25:
-            return ", wakes " + (" and ".join(tasks(values)) or "nobody")
-        case 3:
-            return message(values)
-        case 4:
-            return message(values[1:]) if values[0] else ", the task waits"
-        case 5:
-            return f"{counted(values[0], 'message')} queued"
-        case 9:
-            return counted(values[0], "hold")
-        case 10:
-            return f"{counted(values[0], 'waiter')} cleared"
-        case 13 | 19 | 22:
-            return f"id {values[0]}"
-        case 14:
-            return "yes" if values[0] else "no"
-        case 18:
-            return ", ".join(f"id {place[0]}" if place else "vacant" for place in places(values, 1))
-        case 20:
-            return f"task number {values[0]}"
-        case 21:
-            return f"{counted(values[0], 'entry', 'entries')} ended"
-        case 23:
-            return f"cookie {values[0]}"
-        case 27:
-            return f"authority {values[0]}, full {values[1]}, state {values[2]}"
+    if operation == 1:
+        return f"send id {values[0]}, receive id {values[1]}"
+    if operation in (2, 6, 8, 25):
+        return ", wakes " + (" and ".join(tasks(values)) or "nobody")
+    if operation == 3:
+        return message(values)
+    if operation == 4:
+        return message(values[1:]) if values[0] else ", the task waits"
+    if operation == 5:
+        return f"{counted(values[0], 'message')} queued"
+    if operation == 9:
+        return counted(values[0], "hold")
+    if operation == 10:
+        return f"{counted(values[0], 'waiter')} cleared"
+    if operation in (13, 19, 22):
+        return f"id {values[0]}"
+    if operation == 14:
+        return "yes" if values[0] else "no"
+    if operation == 18:
+        return ", ".join(f"id {place[0]}" if place else "vacant" for place in places(values, 1))
+    if operation == 20:
+        return f"task number {values[0]}"
+    if operation == 21:
+        return f"{counted(values[0], 'entry', 'entries')} ended"
+    if operation == 23:
+        return f"cookie {values[0]}"
+    if operation == 27:
+        return f"authority {values[0]}, full {values[1]}, state {values[2]}"
     return ""
 
 
@@ -134,6 +142,8 @@ def places(values, size):
 def counted(n, one, many=None):
     return f"{n} {one if n == 1 else many or one + 's'}"
 
+
+KINDS = {"end": ended, "bad": faulty, "": answered}
 
 if __name__ == "__main__":
     for given in sys.stdin:

@@ -1,11 +1,12 @@
 -- Document 01, "What must change shape": lists come as words, 0 vacant, 4,294,967,296 + raw present, others refused (21).
-use mathlib.Core.Bool.{Bool, true, false, _||_}
+use mathlib.Core.Bool.{Bool, _||_}
 use mathlib.Core.List.{List, [], _∷_}
 use Prim.Native.Nat.{ℕ, _+_, _/_, _%_}
 use lib.ListN.{getD, length}
 use lib.Dec.{eqb}
 use Rattle.laws.specs.Pick.{pick}
 use Rattle.laws.specs.Every.{every}
+use Rattle.laws.specs.Refusals as no
 use Rattle.cap.specs.Slot.{vacant, holding}
 use Rattle.cap.specs.declared.slot.Slot.{Slot}
 use Rattle.cap.specs.declared.word.WordAnswer.{WordAnswer}
@@ -17,6 +18,15 @@ readWord w =
     pick (eqb w 0) (Reads vacant)
     (pick (eqb (w / 4294967296) 1) (Reads (holding (record { raw = w % 4294967296 })))
     BadWord)
+
+abbrev pub wordNumber : WordAnswer → ℕ
+wordNumber (Reads s) = no.accepted
+wordNumber BadWord = no.badWord
+
+-- a word shows no values, whether it reads or not: the call that it is for does
+abbrev pub wordValues : WordAnswer → List ℕ
+wordValues (Reads s) = []
+wordValues BadWord = []
 
 -- the word that stands for a slot
 unfoldable pub wordOf : Slot → ℕ

@@ -1,14 +1,26 @@
 // Slots as words of 64 bits, and lists of them: 0 is vacant, 4,294,967,296 + raw holds an id, and nothing else is a word.
 ghost use mathlib.Core.Path.{_≡_};
-ghost use Rattle.cap.specs.Word.{readWord, wordOf, wordsRead, slotAt};
+ghost use Rattle.cap.specs.Word.{wordNumber, readWord, wordOf, wordsRead, slotAt};
 use crate::CapId;
 use crate::slot::Slot;
+use laws::refusals;
 
 const PRESENT: u64 = 4294967296;
 
 pub enum WordAnswer {
     Reads(Slot),
     BadWord,
+}
+
+impl WordAnswer {
+    pub fn number(self) -> u8
+        ensures { λ r. ⌜ r ≡ wordNumber self ⌝ }
+    {
+        match self {
+            WordAnswer::Reads(_) => refusals::ACCEPTED,
+            WordAnswer::BadWord => refusals::BAD_WORD,
+        }
+    }
 }
 
 pub fn read_word(word: u64) -> WordAnswer

@@ -1,5 +1,5 @@
 -- Document 01, "Rows and binding": get, holds, seed, install and drain, on every row and slot.
-use mathlib.Core.Bool.{Bool, false, _&&_}
+use mathlib.Core.Bool.{Bool, false}
 use mathlib.Core.List.{List, [], _∷_}
 use Prim.Native.Nat.{ℕ}
 use lib.Dec.{eqb, leb}
@@ -24,9 +24,9 @@ use Rattle.capslots.specs.declared.answers.InstallAnswer.the-variants.{I
 unfoldable pub getOf : Table → ℕ → ℕ → SlotAnswer
 getOf t r s = pick (leb 54 r) (OutOfRange s 0) (fromSlot (rowAt t r .slots) s)
 
--- a slot holds the id
+-- a slot holds the id: it is not vacant, and the id in it is that one
 abbrev pub namesId : CapId → Slot → Bool
-namesId c x = x .present && eqb (x .id .raw) (c .raw)
+namesId c x = pick (x .present) (eqb (x .id .raw) (c .raw)) false
 
 -- some slot of the row holds the id; a bad row holds none
 unfoldable pub holdsOf : Table → ℕ → CapId → Bool

@@ -75,7 +75,10 @@ pub fn get(t: Table, row: usize, slot: usize) -> SlotAnswer
 fn names(held: Slot, id: CapId) -> bool
     ensures { λ r. ⌜ r ≡ namesId id held ⌝ }
 {
-    held.present & (held.id.raw == id.raw)
+    if !held.present {
+        return false;
+    }
+    held.id.raw == id.raw
 }
 
 // Whether any slot of the row holds the id.

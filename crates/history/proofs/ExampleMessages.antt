@@ -66,7 +66,7 @@ begun-reached = reached-run (fresh (sizesOf 1 2 2) refl) opening
 
 two-accepted : AcceptedBehind begun 1 0 1 sender two
 unfolding run step answer after onCreation ifCreated but createOf found lowest lowestFree nextGeneration sendOf openingOf openOf opened pick accepted ifSent leads queueOf ringFrom
-two-accepted = record { houses = record { live = refl; tenant = refl }; accepts = refl; others = refl }
+two-accepted = record { lives = record { live = refl; tenant = refl }; accepts = refl; others = refl }
 
 spared : Spares then-on 1 later
 unfolding revokes

@@ -4,7 +4,6 @@ use mathlib.Core.Path.{_≡_, refl}
 use mathlib.Core.Bool.{Bool, true, false}
 use mathlib.Core.List.{List, [], _∷_}
 use Prim.Native.Nat.{ℕ, _+_}
-use lib.ListN.{getD}
 use Rattle.laws.specs.Pick.{pick}
 use Rattle.laws.specs.Place.{found, lowest, lowestFree}
 use Rattle.laws.specs.Every.{every, count}
@@ -12,7 +11,6 @@ use Rattle.cap.specs.Slot.{vacant, holding}
 use Rattle.cap.specs.Id.{idOf}
 use Rattle.cap.specs.Word.{orVacant, readWord, slotsOf}
 use Rattle.cap.specs.declared.CapId.{CapId}
-use Rattle.cap.specs.declared.slot.Slot.{Slot}
 use Rattle.mint.specs.Generation.{nextGeneration}
 use Rattle.ipc.specs.Counts.{raised}
 use Rattle.ipc.specs.Make.{sizesOf}
@@ -22,7 +20,7 @@ use Rattle.ipc.specs.Receive.{recvOf, parkOf, waiting}
 use Rattle.ipc.specs.Holds.{fourOf, registered, registeredAll, registerOf, released, releasedAll, releaseOf}
 use Rattle.ipc.specs.Revoke.{killed, wiped, revokeOf}
 use Rattle.ipc.specs.Waiters.{withoutWaiter, clearOf}
-use Rattle.ipc.specs.Opening.{openOf, openAny, openHold, opened, openingOf, anyRightOf, holdOf}
+use Rattle.ipc.specs.Opening.{openOf, openAny, opened, openingOf, anyRightOf, holdOf}
 use Rattle.ipc.specs.Views.{heldBy, heldIn}
 use Rattle.ipc.specs.declared.state.Message.{Message}
 use Rattle.ipc.specs.declared.state.TaskId.{TaskId}
@@ -33,7 +31,7 @@ use Rattle.ipc.specs.declared.answers.ReleaseAnswer.the-variants.{Released}
 use Rattle.ipc.specs.declared.answers.RevokeAnswer.the-variants.{Revoked}
 use Rattle.ipc.specs.declared.answers.ClearAnswer.the-variants.{Cleared}
 use Rattle.history.specs.Calls as call
-use Rattle.history.specs.Calls.{Call, Answer, answer, after}
+use Rattle.history.specs.Calls.{Call, Answer, releasing, answer, after}
 use Rattle.history.specs.World.{World, but, ifCreated, onCreation, step, run, start, fresh}
 use Rattle.history.specs.Channels.{leads}
 use Rattle.history.specs.Waits.{ends, takesLast, waitsEnded, turnOf, Quiet, none, more, ParkedOn}
@@ -96,9 +94,6 @@ says w c = answer (w .table) c
 abbrev ending : World → Call → Bool
 ending w c = ends w 1 0 task₁ c
 
-abbrev releasing : List Slot → Call
-releasing ss = call.release (getD ss 0 vacant) (getD ss 1 vacant) (getD ss 2 vacant) (getD ss 3 vacant)
-
 abbrev naming : List Waiter → Answer
 naming ws = call.released Released (fourOf ws)
 
@@ -142,7 +137,7 @@ record Computed : Type 0 where
   pub other-names : says both (call.send sender₂ hello) ≡ call.sent (send.the-variants.Sent (waiting task₂))
 
 computed : Computed
-unfolding answer after step run onCreation ifCreated but createOf sendOf recvOf parkOf registerOf registeredAll registered releaseOf releasedAll released revokeOf killed wiped clearOf withoutWaiter openingOf openOf openHold openAny holdOf anyRightOf opened pick found lowest lowestFree every count slotsOf orVacant readWord nextGeneration raised heldBy heldIn leads ends takesLast waitsEnded turnOf
+unfolding answer after step run onCreation ifCreated but createOf sendOf recvOf parkOf registerOf registeredAll registered releaseOf releasedAll released revokeOf killed wiped clearOf withoutWaiter openingOf openOf openAny holdOf anyRightOf opened pick found lowest lowestFree every count slotsOf orVacant readWord nextGeneration raised heldBy heldIn leads ends takesLast waitsEnded turnOf
 computed =
     record {
       parks = refl;

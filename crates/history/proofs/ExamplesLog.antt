@@ -26,6 +26,7 @@ use Rattle.ipc.specs.declared.answers.ParkAnswer.the-variants.{Given, Cancelled
 use Rattle.ipc.specs.declared.answers.RevokeAnswer.the-variants.{Revoked}
 use Rattle.ipc.specs.declared.answers.RefusalsAnswer.the-variants.{Counts}
 use Rattle.logread.specs.Little as numbers
+use Rattle.logread.specs.Operands as operands
 use Rattle.logread.specs.Read as reads
 use Rattle.oplog.specs.Step as steps
 use Rattle.history.specs.Calls.{Call, create, send, receive, park, revoke, counts, created, sent, received, parked, revoked, counted, answer, after}
@@ -60,7 +61,7 @@ abbrev rest : List Operation
 rest = recordsOf (drop 6 bytes)
 
 pub sample-records : recordsOf bytes ≡ anew ∷ rest
-unfolding recordsIn steps.reading steps.operandsOk reads.readOf reads.lengths reads.lengthOf picks.pick
+unfolding recordsIn steps.reading operands.operandsOk reads.readOf reads.lengths reads.lengthOf picks.pick
 sample-records = refl
 
 pub sample-start : operate beginning anew .world ≡ start (sizesOf 2 4 1)
@@ -68,14 +69,14 @@ unfolding operate follow picks.pick
 sample-start = refl
 
 pub sample-lasts : lasting rest ≡ true
-unfolding lasting recordsIn steps.reading steps.operandsOk reads.readOf reads.lengths reads.lengthOf picks.pick
+unfolding lasting recordsIn steps.reading operands.operandsOk reads.readOf reads.lengths reads.lengthOf picks.pick
 sample-lasts = refl
 
 abbrev calls : List Call
 calls = create true ∷ park (idOf 1 1) task ∷ send (idOf 0 1) m ∷ park (idOf 1 1) task ∷ revoke (idOf 1 1) ∷ receive (idOf 1 1) ∷ counts ∷ []
 
 pub sample-calls : callsOver (operate beginning anew) rest ≡ calls
-unfolding callsOver operate callsOf recordsIn steps.reading steps.operandsOk reads.readOf reads.lengths reads.lengthOf numbers.littleAt picks.pick
+unfolding callsOver operate callsOf recordsIn steps.reading operands.operandsOk reads.readOf reads.lengths reads.lengthOf numbers.littleAt picks.pick
 sample-calls = refl
 
 -- and their answers are the lines that the document prints

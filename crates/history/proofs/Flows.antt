@@ -24,13 +24,13 @@ use Rattle.ipc.proofs.AfterReceive as after-recv
 use Rattle.ipc.proofs.AfterPark as after-park
 use Rattle.history.specs.Calls.{receive, park, send}
 use Rattle.history.specs.World.{World}
-use Rattle.history.specs.Channels.{Houses, on}
+use Rattle.history.specs.Channels.{LivesIn, on}
 use Rattle.history.specs.Traffic.{ifSent, byReceive, byPark, accepted, given}
 use Rattle.history.specs.Messages.{GoesIn, ComesOut, EachSent, SomeGives, EachReceived, EachGiven}
 use Rattle.history.proofs.Tidy.{Tidy, reached-tidy}
 use Rattle.history.proofs.Leading.{leads-to, leads-own}
 
-module _ (w : World) (τ : Tidy w) (n k : ℕ) (h : Houses w n k) where
+module _ (w : World) (τ : Tidy w) (n k : ℕ) (h : LivesIn w n k) where
   abbrev t : Table
   t = w .table
 
@@ -81,7 +81,7 @@ module _ (w : World) (τ : Tidy w) (n k : ℕ) (h : Houses w n k) where
     comes-out-here = (rw e (received (after-recv.recv-ways t c (τ .sound))), λ task. rw e (parked task (after-park.park-ways t c task (τ .sound))))
 
 pub goes-in : GoesIn
-goes-in w r n k h room c m e = record { houses = h; accepts = goes-in-here w (reached-tidy r) n k h c m room e; others = refl }
+goes-in w r n k h room c m e = record { lives = h; accepts = goes-in-here w (reached-tidy r) n k h c m room e; others = refl }
 
 pub comes-out : ComesOut
 comes-out w r n k h m rest q c e = comes-out-here w (reached-tidy r) n k h m rest q c e
@@ -98,7 +98,7 @@ each-sent w r c m x e =
       box = k;
       ahead = length (queueOf (w .table) k);
       is = record {
-        houses = record { live = opens-live (w .table) c sendRight k σ (a .opens); tenant = refl };
+        lives = record { live = opens-live (w .table) c sendRight k σ (a .opens); tenant = refl };
         accepts = rw (leads-own w k (openingOf (w .table) c sendRight) (a .opens), e);
         others = refl;
       };

@@ -1,5 +1,5 @@
 -- A revoked channel: nothing goes in and nothing comes out. Assumes nothing.
-use mathlib.Core.Path.{_≡_, refl, sym, ap, _∙_}
+use mathlib.Core.Path.{_≡_, refl}
 use mathlib.Core.Bool.{true, false}
 use mathlib.Core.List.{List, [], _∷_}
 use mathlib.Core.Logic.{⊎-elim}
@@ -11,19 +11,15 @@ use Rattle.laws.proofs.Cases.{not-both}
 use Rattle.cap.specs.Rights.{sendRight, receiveRight}
 use Rattle.cap.specs.declared.CapId.{CapId}
 use Rattle.cap.specs.declared.CapRights.{CapRights}
-use Rattle.ipc.specs.State.{mailboxLive}
 use Rattle.ipc.specs.Opening.{openingOf, anyRightOf}
-use Rattle.ipc.specs.declared.state.Table.{Table}
-use Rattle.ipc.specs.declared.answers.Revoking.{Revoking}
-use Rattle.ipc.proofs.Openings.{opens-live}
-use Rattle.ipc.proofs.AfterRevoke as after-revoke
-use Rattle.history.specs.Calls.{Call, create, send, receive, park, queued, revoke, register, release, holders, clear, noteAuthority, noteState, counts, answer, after}
-use Rattle.history.specs.World.{World, onCreation, settled, step}
-use Rattle.history.specs.Channels.{leads, on}
+use Rattle.ipc.proofs.Openings.{opens-live, any-within}
+use Rattle.history.specs.Calls.{Call, create, send, receive, park, queued, revoke, register, release, holders, clear, noteAuthority, noteState, counts}
+use Rattle.history.specs.World.{World, step}
+use Rattle.history.specs.Channels.{on, onAny}
 use Rattle.history.specs.Traffic.{accepted, given, revokes, allAccepted, allGiven}
 use Rattle.history.specs.Messages.{NothingMore}
 use Rattle.history.proofs.Tidy.{Tidy, step-grows, reached-tidy}
-use Rattle.history.proofs.Lives.{Gone, step-lived}
+use Rattle.history.proofs.Lives.{Gone, step-lived, revoke-gone}
 use Rattle.history.proofs.Leading.{leads-to}
 
 -- ---- nothing goes in or comes out
@@ -72,44 +68,35 @@ nothing-more-in w n [] τ past gone = (refl, refl)
 nothing-more-in w n (c ∷ cs) τ past gone =
     let a = step-grows w c τ in
     let m = a .more in
-    let r = nothing-more-in (step w c) n cs (a .tidy) (omega arith) (λ k x. gone k (step-lived w c n k τ past x .house)) in
+    let r = nothing-more-in (step w c) n cs (a .tidy) (omega arith) (λ k x. gone k (step-lived w c n k τ past x .lives)) in
     (rw (none-accepted w n τ gone c, r .0), rw (none-given w n τ gone c, r .1))
 
 -- ---- a revocation
 module _ (w : World) (n : ℕ) (τ : Tidy w) where
   -- v is a world in which channel n, made before, lives nowhere
-  record Ends (v : World) : Type 0 where
+  pub record Ends (v : World) : Type 0 where
     pub past : n ≤ w .made
     pub gone : Gone v n
 
-  abbrev t : Table
-  t = w .table
-
-  -- the mailbox that it opens is the one where n lives, and dies
-  ended : (c : CapId) {r : Revoking} → leads w n (anyRightOf t c) ≡ true → after-revoke.RevokeWays t c r → Ends (settled w (r .table))
-  ended c e (after-revoke.bad-cap o _) = let a = leads-to w n (anyRightOf t c) e .opens in let z : _≡_ {A = ℕ} 0 1 = cc in absurd (omega arith)
-  ended c {r} e (after-revoke.revoked j o l _ x) =
-      let a = leads-to w n (anyRightOf t c) e in
-      let i : a .box ≡ j = cc (a .opens, o) in
-      let here : w .tenant j ≡ n = ap (w .tenant) (sym i) ∙ a .tenant in
-      record {
-        past = let p = τ .last j l in omega arith;
-        gone = λ k h.
-            let other : k ≡ j → ⊥ = λ q. not-both _ (h .live) (ap (mailboxLive (r .table)) q ∙ x .live) in
-            other (τ .single k j (sym (x .others k other .live) ∙ h .live) l (h .tenant ∙ sym here));
-      }
+  -- the mailbox that the id opens is the one where n lives
+  ended : (c : CapId) → onAny w n c ≡ true → Ends (step w (revoke c))
+  ended c e =
+      let a = leads-to w n (anyRightOf (w .table) c) e in
+      let y = a .tenant in
+      let p = τ .last (a .box) (any-within (w .table) c (a .box) (τ .sound) (a .opens) .live) in
+      record { past = omega arith; gone = revoke-gone w n (a .box) c τ (a .opens) y }
 
   no-revocation : {A : Type 0} → false ≡ true → A
   no-revocation e = absurd (not-both false e refl)
 
-  revoked-gone : (c : Call) → revokes w n c ≡ true → Ends (step w c)
-  unfolding revokes step answer after onCreation
+  pub revoked-gone : (c : Call) → revokes w n c ≡ true → Ends (step w c)
+  unfolding revokes
   revoked-gone (create b) e = no-revocation e
   revoked-gone (send c m) e = no-revocation e
   revoked-gone (receive c) e = no-revocation e
   revoked-gone (park c task) e = no-revocation e
   revoked-gone (queued c) e = no-revocation e
-  revoked-gone (revoke c) e = ended c e (after-revoke.revoke-ways t c (τ .sound))
+  revoked-gone (revoke c) e = ended c e
   revoked-gone (register words) e = no-revocation e
   revoked-gone (release _ _ _ _) e = no-revocation e
   revoked-gone (holders c) e = no-revocation e

@@ -22,14 +22,14 @@ use Rattle.ipc.proofs.OtherOpenings.{any-is}
 use Rattle.ipc.proofs.AfterCreate.{CreateWays, no-mailbox, no-endpoint, created, create-ways}
 use Rattle.history.specs.Calls.{Call, create, answer}
 use Rattle.history.specs.World.{World, step, run, Reached}
-use Rattle.history.specs.Channels.{Houses}
-use Rattle.history.specs.Ids.{Makes, IdOf, OpensOnly, IdsKeep, OneHouse, OpensNow, IdsOpen}
+use Rattle.history.specs.Channels.{LivesIn}
+use Rattle.history.specs.Ids.{Makes, IdOf, OpensOnly, IdsKeep, OneMailbox, OpensNow, IdsOpen}
 use Rattle.history.proofs.Steps.{Births, births, create-births}
-use Rattle.history.proofs.Tidy.{genOf, Tidy, Since, births-issues, step-grows, run-grows, reached-tidy, one-house}
+use Rattle.history.proofs.Tidy.{genOf, Tidy, Since, births-issues, step-grows, run-grows, reached-tidy, one-mailbox}
 use Rattle.history.proofs.Reach.{reaches}
 
-pub one-channel : OneHouse
-one-channel w r = one-house r
+pub one-channel : OneMailbox
+one-channel w r = one-mailbox r
 
 -- ---- the creation
 -- where it put the channel, and the ids by their ends
@@ -91,7 +91,7 @@ module _ (w : World) (b : Bool) (n : ℕ) (ids : Channel) (τ : Tidy w) (m : Mak
       let f = β .makes .took in
       record {
         box = p .box;
-        houses = record { live = rw (β .table) (β .makes .live); tenant = β .tenant ∙ sym (m .number) };
+        lives = record { live = rw (β .table) (β .makes .live); tenant = β .tenant ∙ sym (m .number) };
         both = record { sends = rw (β .table, p .send-id) (o .sends); receives = rw (β .table, p .recv-id) (o .receives) };
         sends-only = rw (β .table, p .send-id) (o .sends-only);
         receives-only = rw (β .table, p .recv-id) (o .receives-only);
@@ -117,22 +117,22 @@ module _ (n : ℕ) (c : CapId) (v : World) (i : Issued n c v) (few : v .made < n
   abbrev σ : Sound (v .table)
   σ = i .tidy .sound
 
-  houses-by : (need : CapRights) (k : ℕ) → openingOf (v .table) c need ≡ Opens k → Houses v n k
-  houses-by need k e =
+  lives-by : (need : CapRights) (k : ℕ) → openingOf (v .table) c need ≡ Opens k → LivesIn v n k
+  lives-by need k e =
       let l = opens-live (v .table) c need k σ e in
       let up = i .tidy .last k l in
       record { live = l; tenant = once n (v .tenant k) (i .first) (i .since c need k refl e) (omega arith) (sym (i .tidy .generation c need k e) ∙ i .generation) }
 
-  houses-either : (k : ℕ) → eitherOf (v .table) c ≡ Opens k → Houses v n k
-  houses-either k e = ⊎-elim (houses-by sendRight k) (houses-by receiveRight k) (either-cases (v .table) c k e)
+  lives-either : (k : ℕ) → eitherOf (v .table) c ≡ Opens k → LivesIn v n k
+  lives-either k e = ⊎-elim (lives-by sendRight k) (lives-by receiveRight k) (either-cases (v .table) c k e)
 
   pub opens-only : OpensOnly v n c
   opens-only =
       record {
-        by = houses-by;
-        either = houses-either;
-        any = λ k e. houses-either k (sym (any-is (v .table) c σ) ∙ e);
-        hold = λ x h k e. houses-by sendRight k (rw (← h) (hold-opens (v .table) x k e .1));
+        by = lives-by;
+        either = lives-either;
+        any = λ k e. lives-either k (sym (any-is (v .table) c σ) ∙ e);
+        hold = λ x h k e. lives-by sendRight k (rw (← h) (hold-opens (v .table) x k e .1));
       }
 
 -- ---- the demand

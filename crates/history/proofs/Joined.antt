@@ -36,9 +36,9 @@ use Rattle.joined.specs.declared.answers.GiveAnswer as give
 use Rattle.joined.proofs.Register.{list-registered, word-registered}
 use Rattle.joined.proofs.Ways.{spawn-ways, leave-ways, give-ways}
 use Rattle.history.specs.Calls as calls
-use Rattle.history.specs.Calls.{Call, register, fourSlots, answer, after}
+use Rattle.history.specs.Calls.{Call, register, fourSlots, releasing, answer, after}
 use Rattle.history.specs.World.{World, run}
-use Rattle.history.specs.Joined.{ifAccepted, releasing, registering, spawnCalls, leaveCalls, giveCalls, JoinedRuns, JoinedTell}
+use Rattle.history.specs.Joined.{ifAccepted, registering, spawnCalls, leaveCalls, giveCalls, JoinedRuns, JoinedTell}
 use Rattle.history.proofs.Kept.{step-table}
 use Rattle.history.proofs.Tidy.{Tidy, reached-tidy}
 
@@ -84,6 +84,9 @@ four (a ∷ b ∷ c ∷ d ∷ x ∷ l) e = absurd (omega arith)
 drained-four : (rows : Rows) (r : ℕ) → Shape rows → length (drainOf rows r .slots) ≡ 4
 drained-four rows r shape = drain-ways (λ (x : Drained). length (x .slots) ≡ 4) rows r (λ _. refl) (λ l. shape .slots r l)
 
+pub row-four : (rows : Rows) (r : ℕ) → Shape rows → let l = drainOf rows r .slots in fourSlots (getD l 0 vacant) (getD l 1 vacant) (getD l 2 vacant) (getD l 3 vacant) ≡ l
+row-four rows r shape = four (drainOf rows r .slots) (drained-four rows r shape)
+
 -- ---- an id of 32 bits reads as a word, and one past them opens nothing in a run
 id-reads : (c : CapId) → c .raw < 4294967296 → wordsRead (wordOf (holding c) ∷ []) ≡ true
 unfolding every
@@ -110,7 +113,7 @@ module _ (w : World) (rows : Rows) where
 
   row-freed : (r : ℕ) → Shape rows → after t (releasing (drainOf rows r .slots)) ≡ releaseOf t (drainOf rows r .slots) .table
   unfolding after
-  row-freed r shape = ap (λ (l : List Slot). releaseOf t l .table) (four (drainOf rows r .slots) (drained-four rows r shape))
+  row-freed r shape = ap (λ (l : List Slot). releaseOf t l .table) (row-four rows r shape)
 
   id-held : (c : CapId) → Tidy w → (b : Bool) → ltb (c .raw) 4294967296 ≡ b → after t (registering c) ≡ registered t (holding c)
   unfolding after
@@ -152,7 +155,7 @@ module _ (t : Table) (rows : Rows) where
 
   row-wakes : (r : ℕ) → Shape rows → answer t (releasing (drainOf rows r .slots)) ≡ calls.released Released (releaseOf t (drainOf rows r .slots) .waiters)
   unfolding answer releaseOf
-  row-wakes r shape = ap (λ (l : List Slot). calls.released Released (releaseOf t l .waiters)) (four (drainOf rows r .slots) (drained-four rows r shape))
+  row-wakes r shape = ap (λ (l : List Slot). calls.released Released (releaseOf t l .waiters)) (row-four rows r shape)
 
   leave-told : (r : ℕ) → Shape rows → leaveOf t rows r .answer ≡ leave.the-variants.Left → answer t (releasing (drainOf rows r .slots)) ≡ calls.released Released (leaveOf t rows r .waiters)
   leave-told r shape =

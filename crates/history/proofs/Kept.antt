@@ -1,6 +1,6 @@
 -- Every table of a run is sound, so that no call of a run is refused with 27. Assumes nothing.
 use mathlib.Core.Path.{_≡_, refl}
-use mathlib.Core.List.{List, [], _∷_}
+use mathlib.Core.List.{List, [], _∷_, _++_}
 use Rattle.laws.proofs.Cases.{all-pick}
 use Rattle.ipc.specs.Sound.{Sound}
 use Rattle.ipc.specs.Holds.{registerOf, releaseOf}
@@ -59,6 +59,11 @@ after-sound t counts s = s
 -- ---- runs
 pub step-sound : (w : World) (c : Call) → Sound (w .table) → Sound (step w c .table)
 step-sound w c s = rw (step-table w c) (after-sound (w .table) c s)
+
+pub run-on : (w : World) (cs ds : List Call) → run w (cs ++ ds) ≡ run (run w cs) ds
+unfolding run
+run-on w [] ds = refl
+run-on w (c ∷ cs) ds = run-on (step w c) cs ds
 
 pub run-sound : (w : World) (cs : List Call) → Sound (w .table) → Sound (run w cs .table)
 unfolding run

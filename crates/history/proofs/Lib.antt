@@ -2,6 +2,7 @@ pub mod Kept
 pub mod Shrinks
 pub mod Steps
 pub mod Tidy
+pub mod ReachLists
 pub mod Reach
 pub mod Ids
 pub mod Lives
@@ -9,10 +10,13 @@ pub mod Return
 pub mod Refusals
 pub mod Public
 pub mod Joined
+pub mod Lent
 pub mod Sequences
 pub mod Along
 pub mod Operations
 pub mod Lines
+pub mod LinesShow
+pub mod LinesName
 pub mod LogIds
 pub mod LogMessages
 pub mod LogWaits
@@ -28,6 +32,7 @@ pub mod Turns
 pub mod Givings
 pub mod Messages
 pub mod Gone
+pub mod Created
 pub mod Flows
 pub mod ExampleMessages
 pub mod Edges
@@ -35,3 +40,4 @@ pub mod Stands
 pub mod Idle
 pub mod ExamplesJoined
 pub mod ExamplesLog
+pub mod ExamplesLines

@@ -1,13 +1,10 @@
--- An operation makes one call at most, `one-at-most`, and its line shows what that answers, `operations-tell`. Assumes nothing.
+-- The line of an operation shows what its calls answer, `operations-tell`. Assumes nothing.
 use mathlib.Core.Path.{_≡_, refl, sym, ap, subst, _∙_}
-use mathlib.Core.List.{List, [], _∷_}
-use Prim.Native.Nat.{ℕ, _≤_, _<_}
+use mathlib.Core.List.{List, [], _∷_, append-nil, List·Memᴰ·eq-of-singleton}
+use Prim.Native.Nat.{ℕ, _<_}
 use native.Mathlib.Omega.{arith}
 use borrow.Author.Tests.{ne-eqb}
-use lib.Dec.{lit≤, eqb}
-use lib.ListN.{length}
 use Rattle.laws.specs.Pick.{pick}
-use Rattle.laws.proofs.Cases.{all-pick}
 use Rattle.capslots.specs.Table.{Shape}
 use Rattle.joined.specs.Answers.{spawnNumber, leaveNumber, leaveValues, giveNumber}
 use Rattle.joined.specs.Steps.{spawnOf, leaveOf, giveOf}
@@ -26,22 +23,37 @@ use Rattle.operations.specs.Joined.{spawnDone, giveDone}
 use Rattle.operations.specs.Operands.{idAt}
 use Rattle.operations.specs.declared.Tables.{Tables}
 use Rattle.history.specs.Calls.{Call, answer}
+use Rattle.history.specs.World.{World, answers}
 use Rattle.history.specs.Numbers.{numberOf, valuesOf}
 use Rattle.history.specs.Joined.{ifAccepted, spawnCalls, leaveCalls, giveCalls, JoinedTold}
-use Rattle.history.specs.Operations.{allCalls, callsOf, OneAtMost, Tells, OperationsTell}
+use Rattle.history.specs.Operations.{allCalls, callsOf}
+use Rattle.history.specs.Lines.{allValues, Tells, OperationsTell}
 use Rattle.history.proofs.Joined.{joined-tell}
-use Rattle.history.proofs.Along.{Along, end, _▸_, along}
+use Rattle.history.proofs.Along.{Along, end, _▸_, along-all}
 
+-- ---- two lines that agree, by their first number and by the rest
+pub same-head : {x y : ℕ} {l m : List ℕ} → x ∷ l ≡ y ∷ m → x ≡ y
+same-head e = cc
+
+pub same-rest : {x y : ℕ} {l m : List ℕ} → x ∷ l ≡ y ∷ m → l ≡ m
+same-rest e = cc
+
+-- ---- the answers of an operation's calls
 module _ (log : List ℕ) (t : Tables) where
-  -- where calls are one call, the line tells its answer
+  -- where there are calls, the line tells their answers
   abbrev Told : Done → List Call → Type 0
-  Told d cs = (c : Call) → cs ≡ c ∷ [] → Tells (t .channels) c d
+  Told d cs = (w : World) → w .table ≡ t .channels → (c : Call) (ds : List Call) → cs ≡ c ∷ ds → Tells w (c ∷ ds) d
 
   none : (d : Done) → Told d []
-  none d c e = let z : _≡_ {A = ℕ} 0 1 = cc in absurd (omega arith)
+  none d w e c ds q = let z : _≡_ {A = ℕ} 0 1 = cc in absurd (omega arith)
 
+  -- one call
   one : (d : Done) (x : Call) → d .number ≡ numberOf (answer (t .channels) x) → d .values ≡ valuesOf (answer (t .channels) x) → Told d (x ∷ [])
-  one d x n v c e = subst (λ y. Tells (t .channels) y d) (let q : x ≡ c = cc in q) (record { number = n; values = v })
+  unfolding answers allValues
+  one d x n v w e c ds q = subst (λ (cs : List Call). Tells w cs d) q (record {
+    number = λ a m. n ∙ ap numberOf (ap (λ u. answer u x) (sym e) ∙ sym (List·Memᴰ·eq-of-singleton m));
+    values = v ∙ ap (λ u. valuesOf (answer u x)) (sym e) ∙ sym (append-nil _);
+  })
 
   -- an accepted step makes its call
   made : (d : Done) (n : ℕ) (x : Call) → n ≡ 0 → d .number ≡ numberOf (answer (t .channels) x) → d .values ≡ valuesOf (answer (t .channels) x) → Told d (ifAccepted n (x ∷ []))
@@ -83,7 +95,7 @@ module _ (log : List ℕ) (t : Tables) where
     give-tells give.the-variants.BadSlot e = unmade _ _ _ (λ z. omega (arith, ap giveNumber e))
     give-tells give.the-variants.BadTable e = unmade _ _ _ (λ z. omega (arith, ap giveNumber e))
 
-    all-tell : Along Told (allDone log t) (allCalls log t)
+    all-tell : Along (λ _. Told) 0 (allDone log t) (allCalls log t)
     unfolding answer createDone sendDone receiveDone parkDone queuedDone revokeDone registerDone releaseDone holdersDone clearDone noteAuthorityDone noteStateDone countsDone
     all-tell =
         none _ ▸
@@ -116,50 +128,9 @@ module _ (log : List ℕ) (t : Tables) where
         one _ _ refl refl ▸
         end
 
--- ---- one at most
-short : (n : ℕ) (c : Call) → length (ifAccepted n (c ∷ [])) ≤ 1
-unfolding ifAccepted
-short n c = all-pick (λ (l : List Call). length l ≤ 1) (eqb n 0) (c ∷ []) [] (λ _. lit≤ tt) (λ _. lit≤ tt)
-
-all-short : (log : List ℕ) (t : Tables) → Along (λ (cs ds : List Call). length cs ≤ 1) (allCalls log t) (allCalls log t)
-unfolding spawnCalls leaveCalls giveCalls
-all-short log t =
-    lit≤ tt ▸
-    lit≤ tt ▸
-    lit≤ tt ▸
-    lit≤ tt ▸
-    lit≤ tt ▸
-    lit≤ tt ▸
-    lit≤ tt ▸
-    lit≤ tt ▸
-    lit≤ tt ▸
-    lit≤ tt ▸
-    lit≤ tt ▸
-    lit≤ tt ▸
-    lit≤ tt ▸
-    lit≤ tt ▸
-    lit≤ tt ▸
-    lit≤ tt ▸
-    lit≤ tt ▸
-    lit≤ tt ▸
-    lit≤ tt ▸
-    lit≤ tt ▸
-    lit≤ tt ▸
-    lit≤ tt ▸
-    lit≤ tt ▸
-    lit≤ tt ▸
-    short _ _ ▸
-    short _ _ ▸
-    short _ _ ▸
-    lit≤ tt ▸
-    end
-
-pub one-at-most : OneAtMost
-unfolding callsOf
-one-at-most o t = along (λ (cs ds : List Call). length cs ≤ 1) (allCalls (o .bytes) t) (allCalls (o .bytes) t) [] [] (all-short (o .bytes) t) (lit≤ tt) (o .number)
-
--- ---- the line
 pub operations-tell : OperationsTell
 unfolding applyOf callsOf
-operations-tell o bytes t shape =
-    along (Told (o .bytes) t) (allDone (o .bytes) t) (allCalls (o .bytes) t) (unknownDone t) [] (all-tell (o .bytes) t bytes shape) (none (o .bytes) t _) (o .number)
+operations-tell s f o bytes =
+    let t = s .tables in
+    along-all (λ _. Told (o .bytes) t) (allDone (o .bytes) t) (allCalls (o .bytes) t) (unknownDone t) [] (all-tell (o .bytes) t bytes (f .rows)) (λ _. none (o .bytes) t _)
+    (o .number) (s .world) (f .channels)

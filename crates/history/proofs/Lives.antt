@@ -11,7 +11,7 @@ use Rattle.cap.specs.declared.CapId.{CapId}
 use Rattle.cap.specs.declared.CapRights.{CapRights}
 use Rattle.cap.specs.Rights.{sendRight, receiveRight}
 use Rattle.ipc.specs.State.{mailboxLive}
-use Rattle.ipc.specs.Opening.{openingOf}
+use Rattle.ipc.specs.Opening.{openingOf, anyRightOf}
 use Rattle.ipc.specs.Revoke.{revokeOf}
 use Rattle.ipc.specs.declared.state.Waiter.{Waiter}
 use Rattle.ipc.specs.declared.opening.Opening.{Opening}
@@ -20,8 +20,8 @@ use Rattle.ipc.specs.declared.answers.RevokeAnswer.the-variants.{Revoked}
 use Rattle.ipc.proofs.AfterRevoke as revokes
 use Rattle.history.specs.Calls.{Call, create, revoke, revoked, answer, after}
 use Rattle.history.specs.World.{World, settled, step, run}
-use Rattle.history.specs.Channels.{Houses}
-use Rattle.history.specs.Ids.{IdOf, OpensOnly, IdsStay, IdsEnd}
+use Rattle.history.specs.Channels.{LivesIn}
+use Rattle.history.specs.Ids.{IdOf, IdsStay, IdsEnd}
 use Rattle.history.proofs.Shrinks.{Shrinks, lived}
 use Rattle.history.proofs.Kept.{after-sound, step-table}
 use Rattle.history.proofs.Steps.{StepWays, settles, births, step-ways}
@@ -31,32 +31,32 @@ use Rattle.history.proofs.Ids.{Issued, issued, issued-on, opens-only, i
 -- ---- a step, and a channel that was made before it
 -- where the channel lives after the step, it lived before, and what opened it opens it still
 pub record Lived (w v : World) (n k : ℕ) : Type 0 where
-  pub house : Houses w n k
+  pub lives : LivesIn w n k
   pub still : (c : CapId) (need : CapRights) → openingOf (w .table) c need ≡ Opens k → openingOf (v .table) c need ≡ Opens k
 
-pub step-lived : (w : World) (call : Call) (n k : ℕ) → Tidy w → n ≤ w .made → Houses (step w call) n k → Lived w (step w call) n k
+pub step-lived : (w : World) (call : Call) (n k : ℕ) → Tidy w → n ≤ w .made → LivesIn (step w call) n k → Lived w (step w call) n k
 step-lived w call n k τ past = by (step-ways w call (τ .sound))
   where
-    was : (h : Shrinks (w .table) (after (w .table) call)) → Houses (settled w (after (w .table) call)) n k → Lived w (settled w (after (w .table) call)) n k
+    was : (h : Shrinks (w .table) (after (w .table) call)) → LivesIn (settled w (after (w .table) call)) n k → Lived w (settled w (after (w .table) call)) n k
     was h x =
         record {
-          house = record { live = lived (w .table) (after (w .table) call) (τ .sound) (after-sound (w .table) call (τ .sound)) h k (x .live); tenant = x .tenant };
+          lives = record { live = lived (w .table) (after (w .table) call) (τ .sound) (after-sound (w .table) call (τ .sound)) h k (x .live); tenant = x .tenant };
           still = λ c need e. h .still c need k e (x .live);
         }
 
-    by : {v : World} → StepWays w call v → Houses v n k → Lived w v n k
+    by : {v : World} → StepWays w call v → LivesIn v n k → Lived w v n k
     by (settles h q) = rw q (was h)
     by {v} (births b j s r _ β) = λ x.
         let other : k ≡ j → ⊥ = λ e. let y = x .tenant in let z : v .tenant k ≡ suc (w .made) = ap (v .tenant) e ∙ β .tenant in omega arith in
         record {
-          house = record { live = sym (β .makes .others k other .live) ∙ rw (← β .table) (x .live); tenant = sym (β .others k other) ∙ x .tenant };
+          lives = record { live = sym (β .makes .others k other .live) ∙ rw (← β .table) (x .live); tenant = sym (β .others k other) ∙ x .tenant };
           still = λ c need e. rw (β .table) (β .makes .openings .still c need k e);
         }
 
 -- ---- while it lives
 -- what opens channel n opens it in every world to come where it lives
 abbrev Opener : ℕ → CapId → CapRights → World → Type 0
-Opener n c need v = (k : ℕ) → Houses v n k → openingOf (v .table) c need ≡ Opens k
+Opener n c need v = (k : ℕ) → LivesIn v n k → openingOf (v .table) c need ≡ Opens k
 
 run-opens : (w : World) (cs : List Call) (n : ℕ) (c : CapId) (need : CapRights) → Tidy w → n ≤ w .made → Opener n c need w → Opener n c need (run w cs)
 unfolding run
@@ -64,14 +64,14 @@ run-opens w [] n c need τ past o = o
 run-opens w (call ∷ cs) n c need τ past o =
     let a = step-grows w call τ in
     let m = a .more in
-    run-opens (step w call) cs n c need (a .tidy) (omega arith) (λ k x. let y = step-lived w call n k τ past x in y .still c need (o k (y .house)))
+    run-opens (step w call) cs n c need (a .tidy) (omega arith) (λ k x. let y = step-lived w call n k τ past x in y .still c need (o k (y .lives)))
 
 pub ids-stay : IdsStay
 ids-stay w reached b n ids m later k x =
     let v = step w (create b) in
     let now = ids-open w reached b n ids m in
     let i = issued w b n ids (ids .send) reached m (inl refl) in
-    let at : (j : ℕ) → Houses v n j → j ≡ now .box = λ j y. i .tidy .single j (now .box) (y .live) (now .houses .live) (y .tenant ∙ sym (now .houses .tenant)) in
+    let at : (j : ℕ) → LivesIn v n j → j ≡ now .box = λ j y. i .tidy .single j (now .box) (y .live) (now .lives .live) (y .tenant ∙ sym (now .lives .tenant)) in
     record {
       sends = run-opens v later n (ids .send) sendRight (i .tidy) (i .past) (λ j y. now .both .sends ∙ ap Opens (sym (at j y))) k x;
       receives = run-opens v later n (ids .recv) receiveRight (i .tidy) (i .past) (λ j y. now .both .receives ∙ ap Opens (sym (at j y))) k x;
@@ -80,28 +80,44 @@ ids-stay w reached b n ids m later k x =
 -- ---- once it does not
 -- channel n lives nowhere
 abbrev pub Gone : World → ℕ → Type 0
-Gone v n = (k : ℕ) → Houses v n k → ⊥
+Gone v n = (k : ℕ) → LivesIn v n k → ⊥
 
-run-gone : (w : World) (cs : List Call) (n : ℕ) → Tidy w → n ≤ w .made → Gone w n → Gone (run w cs) n
+pub run-gone : (w : World) (cs : List Call) (n : ℕ) → Tidy w → n ≤ w .made → Gone w n → Gone (run w cs) n
 unfolding run
 run-gone w [] n τ past gone = gone
 run-gone w (call ∷ cs) n τ past gone =
     let a = step-grows w call τ in
     let m = a .more in
-    run-gone (step w call) cs n (a .tidy) (omega arith) (λ k x. gone k (step-lived w call n k τ past x .house))
+    run-gone (step w call) cs n (a .tidy) (omega arith) (λ k x. gone k (step-lived w call n k τ past x .lives))
 
--- a revocation by an id that opens channel n or nothing
-revoke-gone : (v : World) (n : ℕ) (c : CapId) (x : Waiter) → Tidy v → n ≤ v .made → OpensOnly v n c → answer (v .table) (revoke c) ≡ revoked (Revoked x) → Gone (step v (revoke c)) n
-unfolding answer after
-revoke-gone v n c x τ past only e = by (revokes.revoke-ways (v .table) c (τ .sound))
+-- a revocation by an id that opens the mailbox where channel n lives
+pub revoke-gone : (v : World) (n k : ℕ) (c : CapId) → Tidy v → anyRightOf (v .table) c ≡ Opens k → v .tenant k ≡ n → Gone (step v (revoke c)) n
+unfolding after
+revoke-gone v n k c τ o e = by (revokes.revoke-ways (v .table) c (τ .sound))
   where
     by : revokes.RevokeWays (v .table) c (revokeOf (v .table) c) → Gone (step v (revoke c)) n
-    by (revokes.bad-cap _ q) = let z : _≡_ {A = ℕ} 0 1 = cc in absurd (omega arith)
-    by (revokes.revoked k o l _ y) = λ j h.
-        let was = step-lived v (revoke c) n j τ past h .house in
-        let at : j ≡ k = τ .single j k (was .live) l (was .tenant ∙ sym (only .any k o .tenant)) in
+    by (revokes.bad-cap s _) = let z : _≡_ {A = ℕ} 0 1 = cc in absurd (omega arith)
+    by (revokes.revoked i s l _ y) = λ j h.
+        let same : k ≡ i = cc in
+        let here : v .tenant i ≡ n = ap (v .tenant) (sym same) ∙ e in
+        let p = τ .last i l in
+        let was = step-lived v (revoke c) n j τ (omega arith) h .lives in
+        let at : j ≡ i = τ .single j i (was .live) l (was .tenant ∙ sym here) in
         let dead : mailboxLive (step v (revoke c) .table) j ≡ false = rw (step-table v (revoke c), at) (y .live) in
         not-both _ (h .live) dead
+
+-- an accepted one opens a mailbox
+record Revocation (v : World) (c : CapId) : Type 0 where
+  box : ℕ
+  opens : anyRightOf (v .table) c ≡ Opens box
+
+revocation : (v : World) (c : CapId) (x : Waiter) → Tidy v → answer (v .table) (revoke c) ≡ revoked (Revoked x) → Revocation v c
+unfolding answer
+revocation v c x τ e = by (revokes.revoke-ways (v .table) c (τ .sound))
+  where
+    by : revokes.RevokeWays (v .table) c (revokeOf (v .table) c) → Revocation v c
+    by (revokes.bad-cap _ q) = let z : _≡_ {A = ℕ} 0 1 = cc in absurd (omega arith)
+    by (revokes.revoked k o _ _ _) = record { box = k; opens = o }
 
 pub ids-end : IdsEnd
 unfolding run
@@ -122,7 +138,8 @@ ids-end w reached b n ids m some few c is x e later = record { gone = gone; shut
         let a = step-grows v (revoke c) (i .tidy) in
         let p = i .past in
         let y = a .more in
-        run-gone (step v (revoke c)) later n (a .tidy) (omega arith) (revoke-gone v n c x (i .tidy) p (opens-only n c v i few) e)
+        let r = revocation v c x (i .tidy) e in
+        run-gone (step v (revoke c)) later n (a .tidy) (omega arith) (revoke-gone v n (r .box) c (i .tidy) (r .opens) (opens-only n c v i few .any (r .box) (r .opens) .tenant))
 
     shut : u .made < n + 65535 → (d : CapId) → IdOf ids d → (need : CapRights) → openingOf (u .table) d need ≡ Shut
     shut l d of need = by (openingOf (u .table) d need) refl

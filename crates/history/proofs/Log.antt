@@ -1,13 +1,11 @@
 -- The tables of a log's run are those after its operations, `runs-over`. Assumes nothing.
 use mathlib.Core.Path.{_≡_, refl, subst}
-use mathlib.Core.Bool.{Bool, true, false}
 use mathlib.Core.List.{List, _∷_}
 use Prim.Native.Nat.{ℕ, zero, suc, _+_, _-_, _≤_}
 use native.Mathlib.Omega.{arith}
 use borrow.Author.Tests.{eqb-true}
 use lib.Dec.{eqb, ltb}
 use lib.ListN.{length, take, drop}
-use Rattle.laws.specs.Pick.{pick}
 use Rattle.laws.proofs.Cases.{all-pick}
 use Rattle.line.specs.Put.{putOf}
 use Rattle.line.specs.declared.Written.{Written}
@@ -16,9 +14,9 @@ use Rattle.logread.specs.Read.{readOf}
 use Rattle.logread.specs.declared.Read as read
 use Rattle.operations.specs.Apply.{applyOf}
 use Rattle.operations.specs.declared.Tables.{Tables}
-use Rattle.oplog.specs.Step.{stepNumber, operandsOk, reading, writing, textOf, refusedStep, stepOf}
+use Rattle.oplog.specs.Step.{stepNumber, reading, writing, textOf, refusedStep, stepOf}
 use Rattle.oplog.specs.Run.{Ended, runFrom}
-use Rattle.oplog.specs.declared.StepAnswer.the-variants.{Took, BadOperand, NoRoom}
+use Rattle.oplog.specs.declared.StepAnswer.the-variants.{Took, NoRoom}
 use Rattle.oplog.specs.declared.Stepped.{Stepped}
 use Rattle.history.specs.Operations.{Logged, operate, operated}
 use Rattle.history.specs.Log.{recordsIn, RunsOver}
@@ -29,7 +27,6 @@ record Takes (log : List ℕ) (t : Tables) (x : Stepped) : Type 0 where
   op : ℕ
   len : ℕ
   reads : readOf log ≡ read.the-variants.Whole op len
-  operands : operandsOk op log ≡ true
   used : x .used ≡ len
   tables : x .tables ≡ applyOf op log t .tables
 
@@ -38,33 +35,28 @@ module _ (log out : List ℕ) (number at : ℕ) (t : Tables) where
     abbrev writes : Written → Stepped
     writes w = writing w (refusedStep at t NoRoom) (λ next. record { answer = Took; used = len; at = next; tables = applyOf op log t .tables })
 
-    by-writing : operandsOk op log ≡ true → (w : Written) → stepNumber (writes w .answer) ≡ 0 → Takes log t (writes w)
+    by-writing : (w : Written) → stepNumber (writes w .answer) ≡ 0 → Takes log t (writes w)
     unfolding writing
-    by-writing eo (Upto next) e = record { op = op; len = len; reads = er; operands = eo; used = refl; tables = refl }
-    by-writing eo Crowded e = absurd (omega arith)
+    by-writing (Upto next) e = record { op = op; len = len; reads = er; used = refl; tables = refl }
+    by-writing Crowded e = absurd (omega arith)
 
-    by-operands : (b : Bool) → operandsOk op log ≡ b → let x : Stepped = pick b (writes (putOf out at (textOf number op (applyOf op log t)))) (refusedStep at t BadOperand) in
-        stepNumber (x .answer) ≡ 0 → Takes log t x
-    unfolding pick
-    by-operands true eo e = by-writing eo _ e
-    by-operands false eo e = absurd (omega arith)
-
-  by-reading : (q : read.Read) → readOf log ≡ q → let x : Stepped = reading q (refusedStep at t) (λ op len. pick (operandsOk op log) (writing (putOf out at (textOf number op (applyOf op log t))) (refusedStep at t NoRoom) (λ next. record { answer = Took; used = len; at = next; tables = applyOf op log t .tables })) (refusedStep at t BadOperand)) in
+  by-reading : (q : read.Read) → readOf log ≡ q → let x : Stepped = reading q (refusedStep at t) (λ op len. writing (putOf out at (textOf number op (applyOf op log t))) (refusedStep at t NoRoom) (λ next. record { answer = Took; used = len; at = next; tables = applyOf op log t .tables })) in
       stepNumber (x .answer) ≡ 0 → Takes log t x
   unfolding reading
   by-reading read.the-variants.Short er e = absurd (omega arith)
   by-reading read.the-variants.BadMark er e = absurd (omega arith)
   by-reading read.the-variants.BadOp er e = absurd (omega arith)
-  by-reading (read.the-variants.Whole op len) er e = by-operands op len er (operandsOk op log) refl e
+  by-reading read.the-variants.BadOperand er e = absurd (omega arith)
+  by-reading (read.the-variants.Whole op len) er e = by-writing op len er _ e
 
   takes : stepNumber (stepOf log number out at t .answer) ≡ 0 → Takes log t (stepOf log number out at t)
   unfolding stepOf
   takes e = by-reading (readOf log) refl e
 
 -- the records of what is read
-records-read : (k : ℕ) (log : List ℕ) (op len : ℕ) → readOf log ≡ read.the-variants.Whole op len → operandsOk op log ≡ true → recordsIn (suc k) log ≡ record { number = op; bytes = log } ∷ recordsIn k (drop len log)
-unfolding recordsIn reading pick
-records-read k log op len er eo = rw (er, eo)
+records-read : (k : ℕ) (log : List ℕ) (op len : ℕ) → readOf log ≡ read.the-variants.Whole op len → recordsIn (suc k) log ≡ record { number = op; bytes = log } ∷ recordsIn k (drop len log)
+unfolding recordsIn reading
+records-read k log op len er = rw er
 
 -- ---- runs
 -- a run over these records, from the tables of s on, ends after n records with the tables u
@@ -84,7 +76,7 @@ unfolding operated
 one-more k rest done s x tk n u h =
     let l = h .0 in
     let z : n - done ≡ suc (n - (done + 1)) = omega arith in
-    (omega arith, rw (z, records-read k rest (tk .op) (tk .len) (tk .reads) (tk .operands), ← tk .used) (h .1))
+    (omega arith, rw (z, records-read k rest (tk .op) (tk .len) (tk .reads), ← tk .used) (h .1))
 
 over : (all k : ℕ) (rest : List ℕ) (done : ℕ) (out : List ℕ) (at : ℕ) (t : Tables) (s : Logged) → t ≡ s .tables → EndsOver k rest done s (runFrom all k rest done out at t)
 unfolding runFrom operate

@@ -1,35 +1,45 @@
 -- Demand 3's sentences on waits in a log, `log-waits-named`. Assumes nothing.
 use mathlib.Core.Path.{_≡_, refl, sym, ap, subst, _∙_}
-use mathlib.Core.List.{List, [], _∷_}
+use mathlib.Core.Bool.{true, false, not}
+use mathlib.Core.List.{List, [], _∷_, _++_}
+use mathlib.Core.Logic.{_⊎_, inl, inr, ⊎-elim}
 use Prim.Native.Nat.{ℕ}
 use native.Mathlib.Omega.{arith}
-use Rattle.ipc.specs.Answers.{parkValues}
+use borrow.Author.Tests.{not-true}
+use Rattle.laws.proofs.Every.{and-left, and-right, and-both}
+use Rattle.ipc.specs.Answers.{parkNumber, parkValues}
 use Rattle.ipc.specs.Receive.{parkOf}
+use Rattle.ipc.specs.declared.state.TaskId.{TaskId}
 use Rattle.ipc.specs.declared.answers.ParkAnswer.{ParkAnswer}
 use Rattle.ipc.specs.declared.answers.ParkAnswer.the-variants.{Parked, Given, BadCap, Busy, Cancelled, BadTable}
 use Rattle.operations.specs.Apply.{applyOf}
 use Rattle.operations.specs.Channels.{parkDone}
 use Rattle.operations.specs.Operands.{idAt, taskAt}
 use Rattle.operations.specs.declared.Tables.{Tables}
-use Rattle.history.specs.Calls.{park, parked, answer}
-use Rattle.history.specs.World.{run, step}
-use Rattle.history.specs.Waits.{Waits, Fate, ParkedOn}
-use Rattle.history.specs.Operations.{doneBy, callsOf, Logged, operate, operated, beginning, Follows, callsOver}
-use Rattle.history.specs.LogWaits.{parking, NamedInLog, LogWaitsNamed}
-use Rattle.history.proofs.Waits.{parked-named}
-use Rattle.history.proofs.Operations.{goes-on, other-number, logs-follow}
+use Rattle.history.specs.Calls.{Call, park, parked, answer}
+use Rattle.history.specs.World.{World, run, step}
+use Rattle.history.specs.Waits.{Waits, Quiet, none, more, First, ParkedOn}
+use Rattle.history.specs.Operations.{Operation, doneBy, callsOf, renews, Logged, operate, operated, beginning, Follows, lasting, callsOver}
+use Rattle.history.specs.Lines.{lineIn}
+use Rattle.history.specs.LogWaits.{parking, FirstIn, EndedIn, FateIn, waits, ended, NamedInLog, LogWaitsNamed}
+use Rattle.history.proofs.Kept.{run-on}
+use Rattle.history.proofs.Waits.{named-first, quiet-or-first, parked-named}
+use Rattle.history.proofs.Operations.{goes-on, other-number, operations-follow, operated-follow, operations-run, logs-follow}
+use Rattle.history.proofs.Lines.{same-rest}
+use Rattle.history.proofs.LinesName.{names}
 
 -- the park of a log is the call
 parks : (s : Logged) (log : List ℕ) → operate s (parking log) .world ≡ step (s .world) (park (idAt log 3) (taskAt log 7))
-unfolding operate callsOf run
-parks s log = goes-on (s .world) (parking log) (s .tables) (other-number 3 log)
+unfolding callsOf run
+parks s log = goes-on s (parking log) (other-number 3 log)
 
-park-shows : (log : List ℕ) (t : Tables) → doneBy (parking log) t .values ≡ parkValues (parkOf (t .channels) (idAt log 3) (taskAt log 7) .answer)
+park-shows : (log : List ℕ) (t : Tables) → let a = parkOf (t .channels) (idAt log 3) (taskAt log 7) .answer in
+    doneBy (parking log) t .number ∷ doneBy (parking log) t .values ≡ parkNumber a ∷ parkValues a
 unfolding applyOf parkDone
 park-shows log t = refl
 
 -- `0` is Parked alone
-zero-parked : (a : ParkAnswer) → parkValues a ≡ 0 ∷ [] → a ≡ Parked
+zero-parked : (a : ParkAnswer) → parkNumber a ∷ parkValues a ≡ 0 ∷ 0 ∷ [] → a ≡ Parked
 zero-parked Parked e = refl
 zero-parked (Given m) e = let z : _≡_ {A = ℕ} 0 1 = cc in absurd (omega arith)
 zero-parked BadCap e = let z : _≡_ {A = ℕ} 0 1 = cc in absurd (omega arith)
@@ -37,22 +47,72 @@ zero-parked Busy e = let z : _≡_ {A = ℕ} 0 1 = cc in absurd (omega arith)
 zero-parked Cancelled e = let z : _≡_ {A = ℕ} 0 1 = cc in absurd (omega arith)
 zero-parked BadTable e = let z : _≡_ {A = ℕ} 0 1 = cc in absurd (omega arith)
 
+-- ---- which operation comes first
+-- where none of the operations is an accepted `new`, none before one of them is, nor is that one
+lasting-parts : (before : List Operation) (o : Operation) (rest : List Operation) → lasting (before ++ (o ∷ rest)) ≡ true → (lasting before ≡ true) × (renews o ≡ false)
+unfolding lasting
+lasting-parts [] o rest h = (refl, not-true (renews o) (and-left (not (renews o)) (lasting rest) h))
+lasting-parts (b ∷ before) o rest h =
+    let p = lasting-parts before o rest (and-right (not (renews b)) (lasting (before ++ (o ∷ rest))) h) in
+    (and-both (not (renews b)) (lasting before) (and-left (not (renews b)) (lasting (before ++ (o ∷ rest))) h) (p .0), p .1)
+
+module _ (n k : ℕ) (x : TaskId) where
+  quiet-then : {w : World} {cs : List Call} (ds : List Call) → Quiet w n k x cs → Quiet (run w cs) n k x ds → Quiet w n k x (cs ++ ds)
+  unfolding run
+  quiet-then ds none q = q
+  quiet-then ds (more e p) q = more e (quiet-then ds p q)
+
+  -- operations are quiet, or one of them is the first that is not
+  quiet-or-first-in : (v : Logged) (later : List Operation) → lasting later ≡ true → Quiet (v .world) n k x (callsOver v later) ⊎ FirstIn v n k x later
+  unfolding callsOver operated lasting
+  quiet-or-first-in v [] h = inl none
+  quiet-or-first-in v (o ∷ os) h =
+      let u = operate v o in
+      let q = goes-on v o (not-true (renews o) (and-left (not (renews o)) (lasting os) h)) in
+      let on : (ds : List Call) → Quiet (v .world) n k x (callsOf o (v .tables)) → Quiet (u .world) n k x ds → Quiet (v .world) n k x (callsOf o (v .tables) ++ ds) =
+      λ ds p r. quiet-then ds p (subst (λ w. Quiet w n k x ds) q r) in
+      ⊎-elim
+      (λ p. ⊎-elim (λ r. inl (on _ p r))
+      (λ f. inr (record { before = o ∷ f .before; operation = f .operation; behind = f .behind; split = ap (λ (l : List Operation). o ∷ l) (f .split); quiet = on _ p (f .quiet); ender = f .ender }))
+      (quiet-or-first-in u os (and-right (not (renews o)) (lasting os) h)))
+      (λ f. inr (record { before = []; operation = o; behind = os; split = refl; quiet = none; ender = f }))
+      (quiet-or-first (v .world) n k x (callsOf o (v .tables)))
+
+  -- a task that waits through quiet operations
+  waits-in : (v : Logged) → Follows v → Waits (v .world) n k x → (os : List Operation) → lasting os ≡ true → Quiet (v .world) n k x (callsOver v os) → Waits (operated v os .world) n k x
+  waits-in v f h os l q = rw (operations-run v os l) (named-first (v .world) (f .reached) n k x h (callsOver v os) q .0)
+
+  -- and one whose wait an operation ends
+  ends-in : (u : Logged) → Follows u → Waits (u .world) n k x → (o : Operation) → renews o ≡ false → First (u .world) n k x (callsOf o (u .tables)) → EndedIn u n k x o
+  unfolding run
+  ends-in u f h o l e =
+      let a = named-first (u .world) (f .reached) n k x h (e .before) (e .quiet) .1 (e .call) (e .ender) in
+      let r = names u f o n k x e (a .named) in
+      let whole : callsOf o (u .tables) ≡ e .before ++ (e .call ∷ []) = e .split ∙ ap (λ (l : List Call). e .before ++ (e .call ∷ l)) (r .last) in
+      let q : operate u o .world ≡ step (run (u .world) (e .before)) (e .call) =
+      goes-on u o l ∙ ap (run (u .world)) whole ∙ run-on (u .world) (e .before) (e .call ∷ []) in
+      record { named = r .named; over = λ j y. a .over j (subst (λ w. Waits w n j x) q y) }
+
+  fate-in : (v : Logged) → Follows v → Waits (v .world) n k x → (later : List Operation) → lasting later ≡ true → FateIn v n k x later
+  fate-in v f h later l =
+      ⊎-elim (λ q. waits q (waits-in v f h later l q))
+      (λ e.
+      let p = lasting-parts (e .before) (e .operation) (e .behind) (rw (e .split) at l) in
+      ended e (ends-in (operated v (e .before)) (operated-follow v (e .before) f) (waits-in v f h (e .before) (p .0) (e .quiet)) (e .operation) (p .1) (e .ender)))
+      (quiet-or-first-in v later l)
+
+-- ---- from the park on
 module _ (s : Logged) (f : Follows s) (log : List ℕ) where
-  parked-on : doneBy (parking log) (s .tables) .values ≡ 0 ∷ [] → ParkedOn (s .world) (idAt log 3) (taskAt log 7)
+  parked-on : lineIn s (parking log) ≡ 4 ∷ 0 ∷ 0 ∷ [] → ParkedOn (s .world) (idAt log 3) (taskAt log 7)
   unfolding answer
-  parked-on e = parked-named (s .world) (f .reached) (idAt log 3) (taskAt log 7) (rw (f .channels) (ap parked (zero-parked _ (sym (park-shows log (s .tables)) ∙ e))))
+  parked-on e = parked-named (s .world) (f .reached) (idAt log 3) (taskAt log 7) (rw (f .channels) (ap parked (zero-parked _ (sym (park-shows log (s .tables)) ∙ same-rest e))))
 
   named-in-log : ParkedOn (s .world) (idAt log 3) (taskAt log 7) → NamedInLog s log
   named-in-log p =
       let v = operate s (parking log) in
       let n = s .world .tenant (p .box) in
-      let q = sym (parks s log) in
-      record {
-        number = n;
-        box = p .box;
-        waits = subst (λ w. Waits w n (p .box) (taskAt log 7)) q (p .waits);
-        fate = λ later _. subst (λ w. Fate w n (p .box) (taskAt log 7) (callsOver v later)) q (p .fate (callsOver v later));
-      }
+      let w : Waits (v .world) n (p .box) (taskAt log 7) = rw (parks s log) (p .waits) in
+      record { number = n; box = p .box; waits = w; fate = fate-in n (p .box) (taskAt log 7) v (operations-follow s (parking log) f) w }
 
 pub log-waits-named : LogWaitsNamed
 log-waits-named before log e = let s = operated beginning before in let f = logs-follow before in named-in-log s f log (parked-on s f log e)

@@ -12,7 +12,7 @@ use Rattle.ipc.specs.Views.{queueOf}
 use Rattle.ipc.specs.declared.state.Message.{Message}
 use Rattle.history.specs.Calls.{Call, send}
 use Rattle.history.specs.World.{World, step, run, Reached}
-use Rattle.history.specs.Channels.{Houses}
+use Rattle.history.specs.Channels.{LivesIn}
 use Rattle.history.specs.Traffic.{accepted, given, revokes, allAccepted, allGiven, Spares, none, more}
 use Rattle.history.specs.Messages.{AcceptedBehind, Once, GivenOnce, GivenInTurn, InOrder, WaitsItsTurn}
 use Rattle.history.proofs.Tidy.{Tidy, step-grows, run-grows, reached-tidy}
@@ -20,13 +20,13 @@ use Rattle.history.proofs.Turns.{turn}
 use Rattle.history.proofs.Givings.{only-gives}
 
 -- ---- over a run
-in-order : (w : World) → Tidy w → (n k : ℕ) → Houses w n k → {cs : List Call} → Spares w n cs →
-    Houses (run w cs) n k × (allGiven w n cs ++ queueOf (run w cs .table) k ≡ queueOf (w .table) k ++ allAccepted w n cs)
+in-order : (w : World) → Tidy w → (n k : ℕ) → LivesIn w n k → {cs : List Call} → Spares w n cs →
+    LivesIn (run w cs) n k × (allGiven w n cs ++ queueOf (run w cs .table) k ≡ queueOf (w .table) k ++ allAccepted w n cs)
 unfolding run allGiven allAccepted
 in-order w τ n k h none = (h, sym (append-nil _))
 in-order w τ n k h (more {c = c} {cs = cs} e s) =
     let a = turn w τ n k h c e in
-    let b = in-order (step w c) (step-grows w c τ .tidy) n k (a .houses) s in (
+    let b = in-order (step w c) (step-grows w c τ .tidy) n k (a .lives) s in (
       b .0,
       append-assoc (given w n c) (allGiven (step w c) n cs) (queueOf (run (step w c) cs .table) k)
           ∙ ap (λ (l : List Message). given w n c ++ l) (b .1)
@@ -46,6 +46,13 @@ cut a b x y e l = (
   sym (drop-append-seam a b) ∙ ap (λ (i : ℕ). drop i (a ++ b)) l ∙ ap (drop (length x)) e ∙ drop-append-seam x y,
 )
 
+-- w is the world before m came, and v with it; after the calls `before`, in the world u, the calls ds give x
+pub record OnceOver (w v : World) (n k : ℕ) (m : Message) (before : List Call) (u : World) (ds : List Call) (x : Message) : Type 0 where
+  pub earlier : allGiven v n before ≡ queueOf (w .table) k
+  pub now : x ≡ m
+  pub later : (rest : List Call) → Spares (run u ds) n rest →
+      allGiven (run u ds) n rest ++ queueOf (run (run u ds) rest .table) k ≡ allAccepted v n before ++ allAccepted (run u ds) n rest
+
 module _ (w : World) (r : Reached w) (n k q : ℕ) (c : CapId) (m : Message) (a : AcceptedBehind w n k q c m) where
   abbrev v : World
   v = step w (send c m)
@@ -56,19 +63,19 @@ module _ (w : World) (r : Reached w) (n k q : ℕ) (c : CapId) (m : Message) (a 
   v-tidy : Tidy v
   v-tidy = step-grows w (send c m) (reached-tidy r) .tidy
 
-  v-houses : Houses v n k
+  v-lives : LivesIn v n k
   unfolding revokes
-  v-houses = turn w (reached-tidy r) n k (a .houses) (send c m) refl .houses
+  v-lives = turn w (reached-tidy r) n k (a .lives) (send c m) refl .lives
 
   -- m stands behind the others
   queued-behind : queueOf (v .table) k ≡ waited ++ (m ∷ [])
   unfolding given revokes
-  queued-behind = turn w (reached-tidy r) n k (a .houses) (send c m) refl .order ∙ ap (λ (l : List Message). waited ++ l) (a .accepts)
+  queued-behind = turn w (reached-tidy r) n k (a .lives) (send c m) refl .order ∙ ap (λ (l : List Message). waited ++ l) (a .accepts)
 
   -- and then what is accepted later
   all-in-order : (later : List Call) → Spares v n later → allGiven v n later ++ queueOf (run v later .table) k ≡ waited ++ (m ∷ allAccepted v n later)
   all-in-order later s =
-      in-order v v-tidy n k v-houses s .1
+      in-order v v-tidy n k v-lives s .1
       ∙ ap (λ (l : List Message). l ++ allAccepted v n later) queued-behind
       ∙ append-assoc waited (m ∷ []) (allAccepted v n later)
 
@@ -100,21 +107,29 @@ module _ (w : World) (r : Reached w) (n k q : ℕ) (c : CapId) (m : Message) (a 
             ∙ at-turn later,
       )
 
-  once : (before : List Call) → Spares v n before → length (allGiven v n before) ≡ q → (d : Call) (x : Message) → given (run v before) n d ≡ x ∷ [] → Once w v n k m before d x
-  once before s e d x g =
+  -- calls that give one message, when q were given
+  pub once-over : (before : List Call) → Spares v n before → length (allGiven v n before) ≡ q → (ds : List Call) → let u = run v before in
+      Spares u n ds → allAccepted u n ds ≡ [] → (x : Message) → allGiven u n ds ≡ x ∷ [] → OnceOver w v n k m before u ds x
+  once-over before s e ds free takes x g =
       let u = run v before in
       let τ = run-grows v before v-tidy .tidy in
-      let f = only-gives u n x d g in
       let p = cut (allGiven v n before) (queueOf (u .table) k) waited (m ∷ allAccepted v n before) (all-in-order before s) (e ∙ sym (a .others)) in
-      let o = turn u τ n k (in-order v v-tidy n k v-houses s .0) d (f .spares) in
-      let z : x ∷ queueOf (step u d .table) k ≡ m ∷ allAccepted v n before =
-      ap (λ (l : List Message). l ++ queueOf (step u d .table) k) (sym g) ∙ o .order ∙ ap (λ (l : List Message). queueOf (u .table) k ++ l) (f .accepts-none) ∙ append-nil _ ∙ p .1 in
-      let y = cut (x ∷ []) (queueOf (step u d .table) k) (m ∷ []) (allAccepted v n before) z refl in
+      let o = in-order u τ n k (in-order v v-tidy n k v-lives s .0) free in
+      let z : x ∷ queueOf (run u ds .table) k ≡ m ∷ allAccepted v n before =
+      ap (λ (l : List Message). l ++ queueOf (run u ds .table) k) (sym g) ∙ o .1 ∙ ap (λ (l : List Message). queueOf (u .table) k ++ l) takes ∙ append-nil _ ∙ p .1 in
+      let y = cut (x ∷ []) (queueOf (run u ds .table) k) (m ∷ []) (allAccepted v n before) z refl in
       record {
         earlier = p .0;
         now = cc;
-        later = λ rest free. in-order (step u d) (step-grows u d τ .tidy) n k (o .houses) free .1 ∙ ap (λ (l : List Message). l ++ allAccepted (step u d) n rest) (y .1);
+        later = λ rest spared. in-order (run u ds) (run-grows u ds τ .tidy) n k (o .0) spared .1 ∙ ap (λ (l : List Message). l ++ allAccepted (run u ds) n rest) (y .1);
       }
+
+  once : (before : List Call) → Spares v n before → length (allGiven v n before) ≡ q → (d : Call) (x : Message) → given (run v before) n d ≡ x ∷ [] → Once w v n k m before d x
+  unfolding run allGiven allAccepted
+  once before s e d x g =
+      let f = only-gives (run v before) n x d g in
+      let o = once-over before s e (d ∷ []) (more (f .spares) none) (append-nil _ ∙ f .accepts-none) x (append-nil _ ∙ g) in
+      record { earlier = o .earlier; now = o .now; later = o .later }
 
 pub given-in-turn : GivenInTurn
 given-in-turn = in-turn

@@ -29,10 +29,10 @@ use Rattle.history.specs.Calls.{Call, after}
 use Rattle.history.specs.World.{World, run, start, Reached, fresh}
 use Rattle.history.specs.Joined.{spawnCalls, leaveCalls, giveCalls}
 use Rattle.history.specs.Operations.{Operation, allCalls, callsOf, sizesAt, renews, Logged, follow, operate, operated, beginning, Follows, OperationsFollow, LogsFollow, lasting, callsOver, OperationsRun}
-use Rattle.history.proofs.Kept.{reached-run}
-use Rattle.history.proofs.Along.{Along, end, _▸_, along}
+use Rattle.history.proofs.Kept.{run-on, reached-run}
+use Rattle.history.proofs.Along.{Along, end, _▸_, along-all}
 use Rattle.history.proofs.Joined.{one-call, joined-runs}
-use Rattle.history.proofs.Sequences.{spawn-shape, leave-shape, give-shape, run-on}
+use Rattle.history.proofs.Sequences.{spawn-shape, leave-shape, give-shape}
 
 -- a list but for its head
 abbrev past : {A : Type 0} → List A → List A
@@ -40,9 +40,9 @@ past [] = []
 past (a ∷ l) = l
 
 -- ---- an operation that is no accepted `new`
-pub goes-on : (w : World) (o : Operation) (t : Tables) → renews o ≡ false → follow w o t ≡ run w (callsOf o t)
-unfolding follow pick
-goes-on w o t h = rw h
+pub goes-on : (s : Logged) (o : Operation) → renews o ≡ false → operate s o .world ≡ run (s .world) (callsOf o (s .tables))
+unfolding operate follow pick
+goes-on s o h = rw h
 
 pub other-number : (n : ℕ) (log : List ℕ) → renews (record { number = suc n; bytes = log }) ≡ false
 other-number n log = rw (ne-eqb (suc n) 0 (λ e. omega arith))
@@ -90,7 +90,7 @@ module _ (w : World) (log : List ℕ) (t : Tables) (reached : Reached w) (same :
       }
 
   -- every operation but `new`
-  all-leave : Along Leaves (past (allDone log t)) (past (allCalls log t))
+  all-leave : Along (λ _. Leaves) 0 (past (allDone log t)) (past (allCalls log t))
   unfolding after createDone sendDone receiveDone parkDone queuedDone revokeDone registerDone releaseDone holdersDone clearDone noteAuthorityDone noteStateDone getDone holdsDone seedDone installDone transferDone drainDone taskMintDone taskLookupDone taskEndDone irqMintDone irqLookupDone countsDone
   all-leave =
       calls _ _ refl refl ▸
@@ -125,7 +125,7 @@ module _ (w : World) (log : List ℕ) (t : Tables) (reached : Reached w) (same :
   by-calls : (n : ℕ) → Follows (record { world = run w (callsOf (record { number = suc n; bytes = log }) t); tables = applyOf (suc n) log t .tables })
   unfolding applyOf callsOf
   by-calls n =
-      let x = along Leaves (past (allDone log t)) (past (allCalls log t)) (unknownDone t) [] all-leave (none (unknownDone t) refl shape) n in
+      let x = along-all (λ _. Leaves) (past (allDone log t)) (past (allCalls log t)) (unknownDone t) [] all-leave (λ _. none (unknownDone t) refl shape) n in
       record { reached = reached-run reached _; channels = x .table; rows = x .rows }
 
   -- `new`: a fresh start, or nothing
@@ -146,7 +146,7 @@ module _ (w : World) (log : List ℕ) (t : Tables) (reached : Reached w) (same :
   by-number : (n : ℕ) → Follows (operate (record { world = w; tables = t }) (record { number = n; bytes = log }))
   unfolding operate
   by-number zero = begins-anew
-  by-number (suc n) = subst (λ v. Follows (record { world = v; tables = applyOf (suc n) log t .tables })) (sym (goes-on w _ t (other-number n log))) (by-calls n)
+  by-number (suc n) = subst (λ v. Follows (record { world = v; tables = applyOf (suc n) log t .tables })) (sym (goes-on (record { world = w; tables = t }) _ (other-number n log))) (by-calls n)
 
 pub operations-follow : OperationsFollow
 operations-follow s o f = by-number (s .world) (o .bytes) (s .tables) (f .reached) (f .channels) (f .rows) (o .number)
@@ -165,5 +165,5 @@ unfolding operated callsOver lasting operate run
 operations-run s [] h = refl
 operations-run s (o ∷ os) h =
     operations-run (operate s o) os (and-right (not (renews o)) (lasting os) h)
-    ∙ ap (λ v. run v (callsOver (operate s o) os)) (goes-on (s .world) o (s .tables) (not-true (renews o) (and-left (not (renews o)) (lasting os) h)))
+    ∙ ap (λ v. run v (callsOver (operate s o) os)) (goes-on s o (not-true (renews o) (and-left (not (renews o)) (lasting os) h)))
     ∙ sym (run-on (s .world) (callsOf o (s .tables)) (callsOver (operate s o) os))

@@ -1,6 +1,5 @@
 -- What replay prints of a log is the lines of its operations and one more, `logs-print`. Assumes nothing.
 use mathlib.Core.Path.{_≡_, refl, sym, ap, _∙_}
-use mathlib.Core.Bool.{Bool, true, false}
 use mathlib.Core.List.{List, [], _∷_, _++_, append-assoc}
 use Prim.Native.Nat.{ℕ, zero, suc, _+_, _≤_}
 use native.Mathlib.Omega.{arith}
@@ -14,9 +13,9 @@ use Rattle.logread.specs.Read.{readOf}
 use Rattle.logread.specs.declared.Read as read
 use Rattle.operations.specs.Apply.{applyOf}
 use Rattle.operations.specs.declared.Tables.{Tables}
-use Rattle.oplog.specs.Step.{stepNumber, operandsOk, reading, textOf}
+use Rattle.oplog.specs.Step.{stepNumber, reading, textOf}
 use Rattle.oplog.specs.Text.{Said, fault, saidOf, textFrom, textAt, most}
-use Rattle.oplog.specs.declared.StepAnswer.the-variants.{Took, BadOperand}
+use Rattle.oplog.specs.declared.StepAnswer.the-variants.{Took}
 use Rattle.history.specs.Operations.{Operation, doneBy, Logged, operate, beginning}
 use Rattle.history.specs.Log as log
 use Rattle.history.specs.Log.{recordsIn, linesOf, Last, finished, Printed, LogsPrint}
@@ -31,21 +30,15 @@ module _ (k : ℕ) (rest : List ℕ) (number : ℕ) (t : Tables) where
   abbrev Beside : Said → List Operation → Type 0
   Beside x os = Says k rest number t x os
 
-  by-operands : (op len : ℕ) (b : Bool) → Beside
-      (pick b (record { answer = Took; used = len; text = textOf number op (applyOf op rest t); tables = applyOf op rest t .tables }) (fault t BadOperand))
-      (pick b (record { number = op; bytes = rest } ∷ recordsIn k (drop len rest)) [])
-  unfolding pick
-  by-operands op len true = taken op refl refl refl refl
-  by-operands op len false = faulty (λ e. omega arith) refl
-
   by-reading : (q : read.Read) → Beside
-      (reading q (fault t) (λ op len. pick (operandsOk op rest) (record { answer = Took; used = len; text = textOf number op (applyOf op rest t); tables = applyOf op rest t .tables }) (fault t BadOperand)))
-      (reading q (λ _. []) (λ op len. pick (operandsOk op rest) (record { number = op; bytes = rest } ∷ recordsIn k (drop len rest)) []))
+      (reading q (fault t) (λ op len. record { answer = Took; used = len; text = textOf number op (applyOf op rest t); tables = applyOf op rest t .tables }))
+      (reading q (λ _. []) (λ op len. record { number = op; bytes = rest } ∷ recordsIn k (drop len rest)))
   unfolding reading
   by-reading read.the-variants.Short = faulty (λ e. omega arith) refl
   by-reading read.the-variants.BadMark = faulty (λ e. omega arith) refl
   by-reading read.the-variants.BadOp = faulty (λ e. omega arith) refl
-  by-reading (read.the-variants.Whole op len) = by-operands op len (operandsOk op rest)
+  by-reading read.the-variants.BadOperand = faulty (λ e. omega arith) refl
+  by-reading (read.the-variants.Whole op len) = taken op refl refl refl refl
 
   says : Beside (saidOf rest number t) (recordsIn (suc k) rest)
   unfolding saidOf recordsIn

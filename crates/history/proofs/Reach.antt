@@ -1,6 +1,6 @@
 -- Where an id opens one channel or nothing, each call with it is answered by that channel's mailbox or refused. Assumes nothing.
 use mathlib.Core.Path.{_≡_, refl, sym, ap, subst, _∙_}
-use mathlib.Core.Bool.{Bool, true, false, _&&_, not}
+use mathlib.Core.Bool.{Bool, true, false, _&&_}
 use Prim.Native.Nat.{ℕ, zero, suc}
 use native.Mathlib.Omega.{arith}
 use borrow.Author.Tests.{eq-eqb, ne-eqb, lt-ltb}
@@ -12,11 +12,11 @@ use Rattle.cap.specs.Rights.{sendRight, receiveRight}
 use Rattle.cap.specs.declared.CapId.{CapId}
 use Rattle.ipc.specs.State.{mailboxAt, messageAt}
 use Rattle.ipc.specs.Sound.{Sound}
-use Rattle.ipc.specs.Answers.{sendNumber, recvNumber, parkNumber, queuedNumber, revokeNumber, holdersNumber}
+use Rattle.ipc.specs.Answers.{sendNumber, sendValues, recvNumber, recvValues, parkNumber, parkValues, queuedNumber, queuedValues, revokeNumber, revokeValues, holdersNumber, holdersValues}
 use Rattle.ipc.specs.Counts.{authorityRaised, stateRaised}
 use Rattle.ipc.specs.Opening.{openingOf, eitherOf, opened}
 use Rattle.ipc.specs.Send.{sendOf}
-use Rattle.ipc.specs.Receive.{recvOf, parkOf, sameTask, oldest, takenFrom, parkedIn}
+use Rattle.ipc.specs.Receive.{recvOf, parkOf, otherWaits, oldest, takenFrom, parkedIn}
 use Rattle.ipc.specs.Revoke.{revokeOf}
 use Rattle.ipc.specs.Views.{ringFrom, queueOf, waiterOf, holdsOf, ephemeralOf, Alike, OnlyCounts}
 use Rattle.ipc.specs.declared.state.Message.{Message}
@@ -38,7 +38,9 @@ use Rattle.ipc.proofs.AfterPark.{park-others}
 use Rattle.ipc.proofs.AfterRevoke as revokes
 use Rattle.history.specs.Calls.{send, receive, park, queued, revoke, holders, sent, received, parked, measured, revoked, held, answer, after}
 use Rattle.history.specs.World.{World}
-use Rattle.history.specs.Ids.{OpensOnly, Reaches, nothing, channel, Reach, oldestOf, parkBy, sendAt, receiveAt, parkAt, queuedAt, revokeAt, holdersAt}
+use Rattle.history.specs.Reach.{Reaches, nothing, channel, Reach, oldestOf, parkBy, sendAt, receiveAt, parkAt, queuedAt, revokeAt, holdersAt}
+use Rattle.history.specs.Ids.{OpensOnly}
+use Rattle.history.proofs.ReachLists.{touch-register, touch-release, alike-register, alike-release}
 
 -- an opening opens one mailbox
 one-opens : {o : Opening} {j k : ℕ} → o ≡ Opens j → o ≡ Opens k → j ≡ k
@@ -60,7 +62,7 @@ module _ (t : Table) (c : CapId) (task : TaskId) (k : ℕ) where
   abbrev unsaid : Parking
   unsaid =
       pick (ephemeralOf t k && eqb (holdsOf t k) 0) (record { answer = Cancelled; table = t })
-      (pick (waiterOf t k .present && not (sameTask (waiterOf t k .task) task)) (record { answer = Busy; table = stateRaised t })
+      (pick (otherWaits (waiterOf t k) task) (record { answer = Busy; table = stateRaised t })
       (record { answer = Parked; table = parkedIn t k task }))
 
   -- n messages wait
@@ -68,7 +70,7 @@ module _ (t : Table) (c : CapId) (task : TaskId) (k : ℕ) where
       pick {A = Parking} (ltb 0 n) (record { answer = Given (oldest t k); table = takenFrom t k }) unsaid .answer
       ≡ parkBy task (ringFrom (messageAt t k) (t .sizes .depth) (mailboxAt t k .tail) n) (ephemeralOf t k) (holdsOf t k) (waiterOf t k)
   unfolding parkBy ringFrom pick
-  by-length zero = park-choice (ephemeralOf t k && eqb (holdsOf t k) 0) (waiterOf t k .present && not (sameTask (waiterOf t k .task) task)) _ _ _
+  by-length zero = park-choice (ephemeralOf t k && eqb (holdsOf t k) 0) (otherWaits (waiterOf t k) task) _ _ _
   by-length (suc n) = rw (lt-ltb 0 (suc n) (omega arith))
 
   park-answers : openingOf t c receiveRight ≡ Opens k → parkOf t c task .answer ≡ parkBy task (queueOf t k) (ephemeralOf t k) (holdsOf t k) (waiterOf t k)
@@ -93,7 +95,7 @@ module _ (w : World) (n : ℕ) (c : CapId) (σ : Sound (w .table)) (only : Opens
 
       by : sends.SendWays t c m (sendOf t c m) → Reaches w n (send c m) (sendAt t)
       by (sends.bad-cap _ q) =
-          nothing (ap (λ (r : Sending). sendNumber (r .answer)) q) (subst (λ (r : Sending). OnlyCounts t (r .table)) (sym q) (authority-only t))
+          nothing (ap (λ (r : Sending). sendNumber (r .answer)) q) (ap (λ (r : Sending). sendValues (r .answer)) q) (subst (λ (r : Sending). OnlyCounts t (r .table)) (sym q) (authority-only t))
       by (sends.full k o f q) = channel k (only .by sendRight k o) (ap sent (yes _ (eq-eqb _ _ f) (ap (λ (r : Sending). r .answer) q))) (others k o)
       by (sends.sent a x) =
           let room : length (queueOf t (a .box)) ≡ t .sizes .depth → ⊥ = λ e. let l = a .below in omega arith in
@@ -108,7 +110,7 @@ module _ (w : World) (n : ℕ) (c : CapId) (σ : Sound (w .table)) (only : Opens
 
       by : receives.RecvWays t c (recvOf t c) → Reaches w n (receive c) (receiveAt t)
       by (receives.bad-cap _ q) =
-          nothing (ap (λ (r : Receiving). recvNumber (r .answer)) q) (subst (λ (r : Receiving). OnlyCounts t (r .table)) (sym q) (authority-only t))
+          nothing (ap (λ (r : Receiving). recvNumber (r .answer)) q) (ap (λ (r : Receiving). recvValues (r .answer)) q) (subst (λ (r : Receiving). OnlyCounts t (r .table)) (sym q) (authority-only t))
       by (receives.empty k o e q) =
           channel k (only .by receiveRight k o) (ap received (ap (λ (r : Receiving). r .answer) q ∙ sym (ap oldestOf e))) (others k o)
       by (receives.received k m o a g) = channel k (only .by receiveRight k o) (ap received (a ∙ sym (ap oldestOf (g .queue)))) (others k o)
@@ -122,7 +124,7 @@ module _ (w : World) (n : ℕ) (c : CapId) (σ : Sound (w .table)) (only : Opens
           channel k (only .by receiveRight k o) (ap parked (park-answers t c task k o)) (λ j ne. park-others t c task σ j (λ e. ne (one-opens e o)))
       by Shut o =
           let q = park-shut t c task o in
-          nothing (ap (λ (r : Parking). parkNumber (r .answer)) q) (subst (λ (r : Parking). OnlyCounts t (r .table)) (sym q) (authority-only t))
+          nothing (ap (λ (r : Parking). parkNumber (r .answer)) q) (ap (λ (r : Parking). parkValues (r .answer)) q) (subst (λ (r : Parking). OnlyCounts t (r .table)) (sym q) (authority-only t))
 
   reach-queued : Reaches w n (queued c) (queuedAt t)
   unfolding answer after
@@ -130,7 +132,7 @@ module _ (w : World) (n : ℕ) (c : CapId) (σ : Sound (w .table)) (only : Opens
     where
       by : (o : Opening) → eitherOf t c ≡ o → Reaches w n (queued c) (queuedAt t)
       by (Opens k) o = channel k (only .either k o) (ap measured (queued-says t c k o)) (λ j _. alike-same t j)
-      by Shut o = nothing (ap queuedNumber (queued-refused t c o)) (same-counts t)
+      by Shut o = nothing (ap queuedNumber (queued-refused t c o)) (ap queuedValues (queued-refused t c o)) (same-counts t)
 
   reach-revoke : Reaches w n (revoke c) (revokeAt t)
   unfolding answer after
@@ -138,7 +140,7 @@ module _ (w : World) (n : ℕ) (c : CapId) (σ : Sound (w .table)) (only : Opens
     where
       by : revokes.RevokeWays t c (revokeOf t c) → Reaches w n (revoke c) (revokeAt t)
       by (revokes.bad-cap _ q) =
-          nothing (ap (λ (r : Revoking). revokeNumber (r .answer)) q) (subst (λ (r : Revoking). OnlyCounts t (r .table)) (sym q) (authority-only t))
+          nothing (ap (λ (r : Revoking). revokeNumber (r .answer)) q) (ap (λ (r : Revoking). revokeValues (r .answer)) q) (subst (λ (r : Revoking). OnlyCounts t (r .table)) (sym q) (authority-only t))
       by (revokes.revoked k o _ a x) = channel k (only .any k o) (ap revoked a) (x .others)
 
   reach-holders : Reaches w n (holders c) (holdersAt t)
@@ -147,7 +149,19 @@ module _ (w : World) (n : ℕ) (c : CapId) (σ : Sound (w .table)) (only : Opens
     where
       by : (o : Opening) → openingOf t c sendRight ≡ o → Reaches w n (holders c) (holdersAt t)
       by (Opens k) o = channel k (only .by sendRight k o) (ap held (holders-says t c k o)) (λ j _. alike-same t j)
-      by Shut o = nothing (ap holdersNumber (holders-refused t c o)) (same-counts t)
+      by Shut o = nothing (ap holdersNumber (holders-refused t c o)) (ap holdersValues (holders-refused t c o)) (same-counts t)
 
   pub reaches : Reach w n c
-  reaches = record { send = reach-send; receive = reach-receive; park = reach-park; queued = reach-queued; revoke = reach-revoke; holders = reach-holders }
+  reaches =
+      record {
+        send = reach-send;
+        receive = reach-receive;
+        park = reach-park;
+        queued = reach-queued;
+        revoke = reach-revoke;
+        holders = reach-holders;
+        registers = touch-register w n c σ only;
+        releases = touch-release w n c σ only;
+        register = alike-register w n c σ only;
+        release = alike-release w n c σ only;
+      }

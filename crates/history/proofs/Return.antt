@@ -31,7 +31,7 @@ use Rattle.ipc.proofs.AfterCreate.{Creates, CreateWays, no-mailbox, no-endpoint
 use Rattle.ipc.proofs.AfterRevoke.{RevokeWays, bad-cap, revoked, revoke-ways}
 use Rattle.history.specs.Calls.{Call, create, revoke, created, answer, after}
 use Rattle.history.specs.World.{World, onCreation, step, run, start, fresh}
-use Rattle.history.specs.Channels.{Houses}
+use Rattle.history.specs.Channels.{LivesIn}
 use Rattle.history.specs.Ids.{IdsReturn}
 use Rattle.history.proofs.Kept.{step-table}
 use Rattle.history.proofs.Steps.{Births, create-births}
@@ -169,8 +169,8 @@ module _ (v : World) (n : ℕ) (ι : Idle v n) (again : genOf (suc n) ≡ 1) whe
   next-first : v .table .«next_gen» ≡ 1
   next-first = ι .tidy .next ∙ ap (λ (x : ℕ). genOf (suc x)) (ι .made) ∙ again
 
-  last-houses : Houses (step v (create false)) (suc n) 0
-  last-houses =
+  last-lives : LivesIn (step v (create false)) (suc n) 0
+  last-lives =
       let β = idle-births v n ι in record { live = rw (β .table) (β .makes .live); tenant = β .tenant ∙ ap suc (ι .made) }
 
   last-sends : openingOf (step v (create false) .table) (first .send) sendRight ≡ Opens 0
@@ -198,7 +198,7 @@ ids-return =
       shut-before = λ c _ need. idle-shut _ 65535 before c need;
       made = idle-births _ 65535 before .made ∙ ap suc (before .made);
       box = 0;
-      houses = last-houses _ 65535 before refl;
+      lives = last-lives _ 65535 before refl;
       both = record { sends = last-sends _ 65535 before refl; receives = last-receives _ 65535 before refl };
     }
   where

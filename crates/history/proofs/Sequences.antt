@@ -1,7 +1,7 @@
--- Sequences of calls and joined steps are runs of calls, `sequences-run`; in a run the public steps are their rules, `joined-public`.
+-- Sequences of calls, joined steps and `lent`'s registers are runs of calls, `sequences-run`; in a run the public steps are their rules, `joined-public`.
 -- Assumes nothing.
 use mathlib.Core.Path.{_≡_, refl, ap, _∙_}
-use mathlib.Core.List.{List, [], _∷_, _++_}
+use mathlib.Core.List.{List, [], _∷_}
 use Prim.Native.Nat.{ℕ}
 use Rattle.cap.specs.declared.CapId.{CapId}
 use Rattle.capslots.specs.Table.{Shape}
@@ -13,11 +13,12 @@ use Rattle.joined.specs.declared.answers.Spawning.{Spawning}
 use Rattle.joined.specs.declared.answers.Leaving.{Leaving}
 use Rattle.joined.specs.declared.answers.Giving.{Giving}
 use Rattle.joined.proofs.Ways.{spawn-ways, leave-ways, give-ways}
-use Rattle.history.specs.Calls.{Call, after}
-use Rattle.history.specs.World.{World, run, step, Reached}
-use Rattle.history.specs.Sequences.{Deed, call, spawn, leave, give, rows, Both, afterDeed, afterDeeds, deedCalls, deedsCalls, SequencesRun, JoinedPublic}
-use Rattle.history.proofs.Kept.{reached-sound, reached-run}
+use Rattle.history.specs.Calls.{after}
+use Rattle.history.specs.World.{World, run, Reached}
+use Rattle.history.specs.Sequences.{Deed, call, lend, spawn, leave, give, rows, Both, afterDeed, afterDeeds, deedCalls, deedsCalls, SequencesRun, JoinedPublic}
+use Rattle.history.proofs.Kept.{run-on, reached-sound, reached-run}
 use Rattle.history.proofs.Public.{served}
+use Rattle.history.proofs.Lent.{lent-calls}
 use Rattle.history.proofs.Joined.{one-call, joined-runs}
 
 -- ---- the rows keep their shape
@@ -34,6 +35,7 @@ module _ (t : Table) (u : Rows) (shape : Shape u) where
 deed-shape : (b : Both) (d : Deed) → Shape (b .rows) → Shape (afterDeed b d .rows)
 unfolding afterDeed
 deed-shape b (call c) shape = shape
+deed-shape b (lend slots fit) shape = shape
 deed-shape b (spawn r words) shape = spawn-shape (b .channels) (b .rows) shape r words
 deed-shape b (leave r) shape = leave-shape (b .channels) (b .rows) shape r
 deed-shape b (give r s c) shape = give-shape (b .channels) (b .rows) shape r s c
@@ -43,15 +45,11 @@ deed-shape b (rows u shape) _ = shape
 deed-run : (w : World) (b : Both) (d : Deed) → Reached w → w .table ≡ b .channels → Shape (b .rows) → run w (deedCalls b d) .table ≡ afterDeed b d .channels
 unfolding deedCalls afterDeed run
 deed-run w b (call c) reached e shape = one-call w c ∙ ap (λ t. after t c) e
+deed-run w b (lend slots fit) reached e shape = rw (← e) (ap (λ (v : World). v .table) (lent-calls w reached slots fit .leaves))
 deed-run w b (spawn r words) reached e shape = rw (← e) (joined-runs w reached (b .rows) shape .spawn r words)
 deed-run w b (leave r) reached e shape = rw (← e) (joined-runs w reached (b .rows) shape .leave r)
 deed-run w b (give r s c) reached e shape = rw (← e) (joined-runs w reached (b .rows) shape .give r s c)
 deed-run w b (rows u _) reached e shape = e
-
-pub run-on : (w : World) (cs ds : List Call) → run w (cs ++ ds) ≡ run (run w cs) ds
-unfolding run
-run-on w [] ds = refl
-run-on w (c ∷ cs) ds = run-on (step w c) cs ds
 
 deeds-run : (w : World) (b : Both) (ds : List Deed) → Reached w → w .table ≡ b .channels → Shape (b .rows) → run w (deedsCalls b ds) .table ≡ afterDeeds b ds .channels
 unfolding deedsCalls afterDeeds run

@@ -15,7 +15,7 @@ use Rattle.cap.proofs.Words.{holding-back, reads-test}
 use Rattle.ipc.specs.State.{nobody}
 use Rattle.ipc.specs.Sound.{Sound}
 use Rattle.ipc.specs.Counts.{raised}
-use Rattle.ipc.specs.Opening.{openingOf, holdOf, openHold}
+use Rattle.ipc.specs.Opening.{openingOf, holdOf}
 use Rattle.ipc.specs.Send.{sendOf}
 use Rattle.ipc.specs.Receive.{recvOf, parkOf, waiting}
 use Rattle.ipc.specs.Holds.{registerOf}
@@ -146,7 +146,7 @@ module _ (t : Table) (k : ℕ) (ids : Channel) (b : Bool) (small : ids .send .ra
   reads = reads-test word (holding (ids .send)) (holding-back (ids .send) small)
 
   hold : holdOf t (holding (ids .send)) ≡ Opens k
-  unfolding holdOf openHold openingOf pick
+  unfolding holdOf pick
   hold = s .sends
 
   once : heldIn t k (slotsOf (word ∷ [])) ≡ 1

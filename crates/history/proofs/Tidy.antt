@@ -31,7 +31,7 @@ use Rattle.ipc.proofs.NewChannel.{NewId}
 use Rattle.ipc.proofs.AfterNew.{fresh-shut, fresh-box}
 use Rattle.history.specs.Calls.{Call, after}
 use Rattle.history.specs.World.{World, settled, step, run, start, Reached, fresh, then}
-use Rattle.history.specs.Channels.{Houses}
+use Rattle.history.specs.Channels.{LivesIn}
 use Rattle.history.proofs.Kept.{after-sound}
 use Rattle.history.proofs.Shrinks.{Shrinks, lived}
 use Rattle.history.proofs.Steps.{Births, StepWays, settles, births, step-ways}
@@ -200,5 +200,5 @@ reached-tidy (fresh z h) = start-tidy z h
 reached-tidy (then {w} r c) = step-grows w c (reached-tidy r) .tidy
 
 -- ---- a channel is one mailbox
-pub one-house : {w : World} → Reached w → (n j k : ℕ) → Houses w n j → Houses w n k → j ≡ k
-one-house r n j k a b = reached-tidy r .single j k (a .live) (b .live) (a .tenant ∙ sym (b .tenant))
+pub one-mailbox : {w : World} → Reached w → (n j k : ℕ) → LivesIn w n j → LivesIn w n k → j ≡ k
+one-mailbox r n j k a b = reached-tidy r .single j k (a .live) (b .live) (a .tenant ∙ sym (b .tenant))

@@ -1,5 +1,5 @@
--- What one call does to a channel that it does not revoke: the channel stays where it lives, and what the call gives and then what
--- waits is what waited and then what the call accepted. Assumes nothing.
+-- What one call does to a channel that it does not revoke: the channel stays where it lives, of the kind it was, and what the call gives
+-- and then what waits is what waited and then what the call accepted. Assumes nothing.
 use mathlib.Core.Path.{_≡_, refl, sym, ap, _∙_}
 use mathlib.Core.Bool.{Bool, true, false}
 use mathlib.Core.List.{List, [], _∷_, _++_, append-nil}
@@ -15,7 +15,7 @@ use Rattle.cap.specs.declared.CapId.{CapId}
 use Rattle.ipc.specs.State.{mailboxLive}
 use Rattle.ipc.specs.Holds.{releaseOf}
 use Rattle.ipc.specs.Opening.{anyRightOf, opened}
-use Rattle.ipc.specs.Views.{queueOf, Alike}
+use Rattle.ipc.specs.Views.{queueOf, ephemeralOf, Alike}
 use Rattle.ipc.specs.declared.state.Message.{Message}
 use Rattle.ipc.specs.declared.state.TaskId.{TaskId}
 use Rattle.ipc.specs.declared.state.Table.{Table}
@@ -37,20 +37,21 @@ use Rattle.ipc.proofs.AfterCounts.{authority-only, full-only, state-only, note-
 use Rattle.ipc.proofs.AfterCreate.{create-others}
 use Rattle.history.specs.Calls.{Call, create, send, receive, park, queued, revoke, register, release, holders, clear, noteAuthority, noteState, counts, fourSlots, answer, after}
 use Rattle.history.specs.World.{World, onCreation, settled, step}
-use Rattle.history.specs.Channels.{Houses, leads, on}
+use Rattle.history.specs.Channels.{LivesIn, leads, on}
 use Rattle.history.specs.Traffic.{ifSent, byReceive, byPark, accepted, given, revokes}
 use Rattle.history.proofs.Kept.{step-table}
 use Rattle.history.proofs.Steps.{StepWays, settles, births, step-ways}
 use Rattle.history.proofs.Tidy.{Tidy}
 
 pub record Turn (w v : World) (n k : ℕ) (out inn : List Message) : Type 0 where
-  pub houses : Houses v n k
+  pub lives : LivesIn v n k
+  pub kind : ephemeralOf (v .table) k ≡ ephemeralOf (w .table) k
   pub order : out ++ queueOf (v .table) k ≡ queueOf (w .table) k ++ inn
 
 pick-same : {A : Type 0} (b : Bool) (a : A) → pick b a a ≡ a
 pick-same b a = all-pick (λ x. x ≡ a) b a a (λ _. refl) (λ _. refl)
 
-module _ (w : World) (τ : Tidy w) (n k : ℕ) (h : Houses w n k) where
+module _ (w : World) (τ : Tidy w) (n k : ℕ) (h : LivesIn w n k) where
   abbrev t : Table
   t = w .table
 
@@ -62,11 +63,11 @@ module _ (w : World) (τ : Tidy w) (n k : ℕ) (h : Houses w n k) where
   elsewhere j e q = eqb-false _ _ e (ap (w .tenant) (sym q) ∙ h .tenant)
 
   -- ---- the queue stays
-  stays : (u : Table) → mailboxLive u k ≡ mailboxLive t k → queueOf u k ≡ queueOf t k → Turn w (settled w u) n k [] []
-  stays u l q = record { houses = record { live = l ∙ h .live; tenant = h .tenant }; order = q ∙ sym (append-nil _) }
+  stays : (u : Table) → mailboxLive u k ≡ mailboxLive t k → ephemeralOf u k ≡ ephemeralOf t k → queueOf u k ≡ queueOf t k → Turn w (settled w u) n k [] []
+  stays u l e q = record { lives = record { live = l ∙ h .live; tenant = h .tenant }; kind = e; order = q ∙ sym (append-nil _) }
 
   alike : (u : Table) → Alike t u k → Turn w (settled w u) n k [] []
-  alike u a = stays u (a .live) (a .queue)
+  alike u a = stays u (a .live) (a .ephemeral) (a .queue)
 
   none-in : (b : Bool) (u : Table) → Turn w (settled w u) n k [] [] → Turn w (settled w u) n k [] (pick b [] [])
   none-in b u x = rw (pick-same {A = List Message} b []) x
@@ -83,7 +84,7 @@ module _ (w : World) (τ : Tidy w) (n k : ℕ) (h : Houses w n k) where
       rw (a .opens, x .answer)
       (all-pick (Turn w (settled w (r .table)) n k []) (eqb (w .tenant (a .box)) n) _ _
       (λ e. let i = here (a .box) (opens-live t c sendRight (a .box) (τ .sound) (a .opens)) e in
-      record { houses = record { live = rw i at (x .live) ∙ h .live; tenant = h .tenant }; order = rw i at (x .queue) })
+      record { lives = record { live = rw i at (x .live) ∙ h .live; tenant = h .tenant }; kind = rw i at (x .ephemeral); order = rw i at (x .queue) })
       (λ e. alike (r .table) (x .rest .others k (elsewhere (a .box) e))))
 
   -- ---- receive and park
@@ -92,7 +93,7 @@ module _ (w : World) (τ : Tidy w) (n k : ℕ) (h : Houses w n k) where
       all-pick (λ out. Turn w (settled w u) n k out []) (eqb (w .tenant j) n) _ _
       (λ e. let i = here j l e in
       let q : queueOf t k ≡ m ∷ queueOf u k = rw i at (g .queue) in
-      record { houses = record { live = rw i at (g .live) ∙ h .live; tenant = h .tenant }; order = sym q ∙ sym (append-nil _) })
+      record { lives = record { live = rw i at (g .live) ∙ h .live; tenant = h .tenant }; kind = rw i at (g .ephemeral); order = sym q ∙ sym (append-nil _) })
       (λ e. alike u (g .rest .others k (elsewhere j e)))
 
   receives : (c : CapId) {r : Receiving} → after-recv.RecvWays t c r → Turn w (settled w (r .table)) n k (pick (on w n c receiveRight) (byReceive (r .answer)) []) []
@@ -110,12 +111,12 @@ module _ (w : World) (τ : Tidy w) (n k : ℕ) (h : Houses w n k) where
   parks c task {r} (after-park.parked j _ _ a p) =
       rw a
       (none-out (on w n c receiveRight) (r .table)
-      (⊎-elim (λ e. stays (r .table) (rw e (p .live)) (rw e (p .queue))) (λ ne. alike (r .table) (p .rest .others k ne)) (same? k j)))
+      (⊎-elim (λ e. stays (r .table) (rw e (p .live)) (rw e (p .ephemeral)) (rw e (p .queue))) (λ ne. alike (r .table) (p .rest .others k ne)) (same? k j)))
 
   -- ---- register and revoke
   registers : (words : List ℕ) {r : Registering} → after-register.RegisterCallWays t words r → Turn w (settled w (r .table)) n k [] []
   registers words (after-register.bad-word _ q) = rw q (alike t (alike-same t k))
-  registers words {r} (after-register.all _ _ x) = let a = x .mailboxes k in stays (r .table) (a .live) (a .queue)
+  registers words {r} (after-register.all _ _ x) = let a = x .mailboxes k in stays (r .table) (a .live) (a .ephemeral) (a .queue)
 
   unrevoked : (c : CapId) → leads w n (anyRightOf t c) ≡ false → anyRightOf t c ≡ Opens k → ⊥
   unfolding leads opened
@@ -133,7 +134,8 @@ module _ (w : World) (τ : Tidy w) (n k : ℕ) (h : Houses w n k) where
   creates : (b : Bool) → Turn w (step w (create b)) n k [] []
   creates b =
       record {
-        houses = record { live = seen b .live ∙ h .live; tenant = number-stays b (step-ways w (create b) (τ .sound)) ∙ h .tenant };
+        lives = record { live = seen b .live ∙ h .live; tenant = number-stays b (step-ways w (create b) (τ .sound)) ∙ h .tenant };
+        kind = seen b .ephemeral;
         order = seen b .queue ∙ sym (append-nil _);
       }
 
@@ -147,9 +149,9 @@ module _ (w : World) (τ : Tidy w) (n k : ℕ) (h : Houses w n k) where
   turn (queued c) _ = alike t (alike-same t k)
   turn (revoke c) e = alike _ (revoke-others t c (τ .sound) k (unrevoked c e))
   turn (register words) _ = registers words (after-register.register-call-ways t words (τ .sound))
-  turn (release x y z v) _ = let a = released-in t (fourSlots x y z v) (τ .sound) .mailboxes k in stays _ (a .live) (a .queue)
+  turn (release x y z v) _ = let a = released-in t (fourSlots x y z v) (τ .sound) .mailboxes k in stays _ (a .live) (a .ephemeral) (a .queue)
   turn (holders c) _ = alike t (alike-same t k)
-  turn (clear task) _ = let a = clear-clears t task in stays _ (a .live k) (a .queue k)
+  turn (clear task) _ = let a = clear-clears t task in stays _ (a .live k) (a .ephemeral k) (a .queue k)
   turn noteAuthority _ = alike _ (note-authority-only t .mailboxes k)
   turn noteState _ = alike _ (note-state-only t .mailboxes k)
   turn counts _ = alike t (alike-same t k)

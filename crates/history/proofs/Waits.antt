@@ -19,12 +19,12 @@ use Rattle.ipc.proofs.AfterPark as park
 use Rattle.history.specs.Calls as call
 use Rattle.history.specs.Calls.{Call, answer, after}
 use Rattle.history.specs.World.{World, step, run, Reached, then}
-use Rattle.history.specs.Channels.{Houses}
+use Rattle.history.specs.Channels.{LivesIn}
 use Rattle.history.specs.Waits.{Waits, ends, Ended, Quiet, none, more, First, NamedFirst, Fate, waits, ended, ParkedOn, ParkedNamed}
-use Rattle.history.proofs.Kept.{step-table, after-sound}
-use Rattle.history.proofs.Shrinks.{lived}
+use Rattle.history.proofs.Kept.{step-table}
 use Rattle.history.proofs.Steps.{StepWays, settles, births, step-ways}
 use Rattle.history.proofs.Tidy.{Tidy, step-grows, reached-tidy}
+use Rattle.history.proofs.Lives.{step-lived}
 use Rattle.history.proofs.WaitsCalls.{Outcome, stays, gone, outcome}
 
 -- ---- an outcome by its test
@@ -51,21 +51,18 @@ module _ (w : World) (τ : Tidy w) (n k : ℕ) (x : TaskId) (h : Waits w n k x) 
   waits-on e =
       let o = unended (outcome w τ n k x h c) e in
       record {
-        houses = record { live = rw (step-table w c) (o .0 ∙ h .houses .live); tenant = tenant-kept w c k τ (h .houses .live) ∙ h .houses .tenant };
+        lives = record { live = rw (step-table w c) (o .0 ∙ h .lives .live); tenant = tenant-kept w c k τ (h .lives .live) ∙ h .lives .tenant };
         waiter = rw (step-table w c) (o .1 ∙ h .waiter);
       }
 
-  -- a call that ends the wait makes no channel: what lives with number n is mailbox k
-  same-house : ends w n k x c ≡ true → (j : ℕ) → Houses (step w c) n j → j ≡ k
-  unfolding ends
-  same-house e j y = by (step-ways w c (τ .sound)) y
-    where
-      by : {v : World} → StepWays w c v → Houses v n j → j ≡ k
-      by (settles σ q) y =
-          let live : mailboxLive (after (w .table) c) j ≡ true = rw q at y .live in
-          let tenant : w .tenant j ≡ n = rw q at y .tenant in
-          τ .single j k (lived (w .table) _ (τ .sound) (after-sound (w .table) c (τ .sound)) σ j live) (h .houses .live) (tenant ∙ sym (h .houses .tenant))
-      by (births b _ _ _ q _) y = absurd (not-both false (rw q at e) refl)
+  -- the channel lives afterwards where it lived
+  stays-in : (j : ℕ) → LivesIn (step w c) n j → j ≡ k
+  stays-in j y =
+      let l = h .lives in
+      let p = τ .last k (l .live) in
+      let e = l .tenant in
+      let was = step-lived w c n j τ (omega arith) y .lives in
+      τ .single j k (was .live) (l .live) (was .tenant ∙ sym (l .tenant))
 
   ends-it : ends w n k x c ≡ true → Ended w n k x c
   ends-it e =
@@ -73,7 +70,7 @@ module _ (w : World) (τ : Tidy w) (n k : ℕ) (x : TaskId) (h : Waits w n k x) 
       record {
         named = o .1;
         over = λ j y.
-            let l : waiterOf (after (w .table) c) k ≡ waiting x = sym (ap (waiterOf (after (w .table) c)) (same-house e j (y .houses))) ∙ ap (λ (u : Table). waiterOf u j) (sym (step-table w c)) ∙ y .waiter in
+            let l : waiterOf (after (w .table) c) k ≡ waiting x = sym (ap (waiterOf (after (w .table) c)) (stays-in j (y .lives))) ∙ ap (λ (u : Table). waiterOf u j) (sym (step-table w c)) ∙ y .waiter in
             not-both false (ap (λ (z : Waiter). z .present) (sym (o .0) ∙ l)) refl;
       }
 
@@ -117,7 +114,7 @@ parked-named w r c x e = by (park.park-ways (w .table) c x (reached-tidy r .soun
         let l = opens-live (w .table) c receiveRight k (reached-tidy r .sound) o in
         let y : Waits (step w (call.park c x)) (w .tenant k) k x =
         record {
-          houses = record { live = rw (step-table w (call.park c x)) (p .live ∙ l); tenant = tenant-kept w (call.park c x) k (reached-tidy r) l };
+          lives = record { live = rw (step-table w (call.park c x)) (p .live ∙ l); tenant = tenant-kept w (call.park c x) k (reached-tidy r) l };
           waiter = rw (step-table w (call.park c x)) (p .waiter);
         } in
         record { box = k; opens = o; waits = y; fate = fate (step w (call.park c x)) (then r (call.park c x)) (w .tenant k) k x y }

@@ -85,11 +85,11 @@ module _ (w : World) (τ : Tidy w) (n k : ℕ) (x : TaskId) (h : Waits w n k x) 
   -- mailbox k is channel n's, and no other that lives is
   here : leads w n (Opens k) ≡ true
   unfolding leads opened
-  here = eq-eqb _ _ (h .houses .tenant)
+  here = eq-eqb _ _ (h .lives .tenant)
 
   elsewhere : (j : ℕ) → mailboxLive t j ≡ true → (k ≡ j → ⊥) → leads w n (Opens j) ≡ false
   unfolding leads opened
-  elsewhere j l ne = ne-eqb _ _ (λ e. ne (τ .single k j (h .houses .live) l (h .houses .tenant ∙ sym e)))
+  elsewhere j l ne = ne-eqb _ _ (λ e. ne (τ .single k j (h .lives .live) l (h .lives .tenant ∙ sym e)))
 
   nowhere : leads w n Shut ≡ false
   unfolding leads opened
@@ -172,7 +172,7 @@ module _ (w : World) (τ : Tidy w) (n k : ℕ) (x : TaskId) (h : Waits w n k x) 
   -- ---- every call
   pub outcome : (c : Call) → Outcome t (after t c) k (Names t k x c ⊎ Clears x c) (ends w n k x c)
   unfolding ends answer after
-  outcome (call.create b) = alike-stays (create-others t b (τ .sound) k (h .houses .live))
+  outcome (call.create b) = alike-stays (create-others t b (τ .sound) k (h .lives .live))
   outcome (call.send c m) = then (λ e. inl (by-send (ap call.sent e))) (send-out c m _ (send.send-ways t c m (τ .sound)))
   outcome (call.receive c) = recv-out c _ (recv.recv-ways t c (τ .sound))
   outcome (call.park c y) = park-out c y _ (park.park-ways t c y (τ .sound))

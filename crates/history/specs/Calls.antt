@@ -2,6 +2,8 @@
 use mathlib.Core.Bool.{Bool}
 use mathlib.Core.List.{List, [], _∷_}
 use Prim.Native.Nat.{ℕ}
+use lib.ListN.{getD}
+use Rattle.cap.specs.Slot.{vacant}
 use Rattle.cap.specs.declared.CapId.{CapId}
 use Rattle.cap.specs.declared.slot.Slot.{Slot}
 use Rattle.ipc.specs.Counts.{noteAuthorityOf, noteStateOf}
@@ -63,6 +65,10 @@ pub data Answer : Type 0 where
 -- the four places of a release
 abbrev pub fourSlots : Slot → Slot → Slot → Slot → List Slot
 fourSlots x y z v = x ∷ y ∷ z ∷ v ∷ []
+
+-- the release of the first four slots of a list, vacant past its end
+abbrev pub releasing : List Slot → Call
+releasing ss = release (getD ss 0 vacant) (getD ss 1 vacant) (getD ss 2 vacant) (getD ss 3 vacant)
 
 unfoldable pub answer : Table → Call → Answer
 answer t (create ephemeral) = created (createOf t ephemeral .answer)

@@ -12,7 +12,7 @@ use Rattle.ipc.specs.declared.opening.Opening.{Opening}
 use Rattle.history.specs.World.{World}
 
 -- channel n lives in mailbox k
-pub record Houses (w : World) (n k : ℕ) : Type 0 where
+pub record LivesIn (w : World) (n k : ℕ) : Type 0 where
   pub live : mailboxLive (w .table) k ≡ true
   pub tenant : w .tenant k ≡ n
 

@@ -1,53 +1,52 @@
 -- Demand 3: "From its creation, an id of channel n opens channel n or nothing until 65,535 later creations have succeeded."
 --
---   "From its creation"                      v, the world after that creation and any calls `later`, or none
+--   "From its creation"                      v, the world after that creation and any calls `later`, or none; every channel that lives has
+--                                            its creation in the run, `EachCreated`
 --   "an id of channel n"                     `IdOf`: one of the two ids that the creation answers
 --   "opens channel n or nothing"             `OpensOnly`: whatever is asked of the id, what opens is the mailbox where n lives; and by
---                                            call, `Reach`: BadCap, or the answer is that mailbox's and no other is touched
+--                                            call, also in the lists of a register and a release, `Reach`: nothing, or that mailbox alone
 --   "until 65,535 later creations            v .made < n + 65535: fewer than 65,535 of the creations up to v came after channel n's
 --   have succeeded"
 --
--- A channel lives in one mailbox at most, so that "the mailbox where n lives" is one: `OneHouse`.
+-- A channel lives in one mailbox at most, so that "the mailbox where n lives" is one: `OneMailbox`.
 use mathlib.Core.Path.{_≡_}
-use mathlib.Core.Bool.{Bool, false, _&&_, not}
-use mathlib.Core.List.{List, [], _∷_}
+use mathlib.Core.Bool.{Bool, false}
+use mathlib.Core.List.{List}
 use mathlib.Core.Logic.{_⊎_}
 use Prim.Native.Nat.{ℕ, suc, _+_, _<_}
-use lib.Dec.{eqb}
-use lib.ListN.{length}
-use Rattle.laws.specs.Pick.{pick}
-use Rattle.laws.specs.Refusals as no
 use Rattle.cap.specs.Rights.{sendRight, receiveRight}
 use Rattle.cap.specs.declared.CapId.{CapId}
 use Rattle.cap.specs.declared.CapRights.{CapRights}
 use Rattle.cap.specs.declared.slot.Slot.{Slot}
 use Rattle.ipc.specs.Opening.{openingOf, eitherOf, anyRightOf, holdOf}
-use Rattle.ipc.specs.Receive.{sameTask}
-use Rattle.ipc.specs.Views.{queueOf, waiterOf, holdsOf, ephemeralOf, Alike, OnlyCounts}
 use Rattle.ipc.specs.declared.state.Channel.{Channel}
-use Rattle.ipc.specs.declared.state.Message.{Message}
-use Rattle.ipc.specs.declared.state.TaskId.{TaskId}
 use Rattle.ipc.specs.declared.state.Waiter.{Waiter}
-use Rattle.ipc.specs.declared.state.Table.{Table}
 use Rattle.ipc.specs.declared.answers.CreateAnswer.the-variants.{Created}
-use Rattle.ipc.specs.declared.answers.SendAnswer.the-variants.{Sent, Full}
-use Rattle.ipc.specs.declared.answers.RecvAnswer.{RecvAnswer}
-use Rattle.ipc.specs.declared.answers.RecvAnswer.the-variants.{Received, Empty}
-use Rattle.ipc.specs.declared.answers.ParkAnswer.{ParkAnswer}
-use Rattle.ipc.specs.declared.answers.ParkAnswer.the-variants.{Parked, Given, Busy, Cancelled}
-use Rattle.ipc.specs.declared.answers.QueuedAnswer.the-variants.{Queued}
-use Rattle.ipc.specs.declared.answers.HoldersAnswer.the-variants.{Holders}
 use Rattle.ipc.specs.declared.answers.RevokeAnswer.the-variants.{Revoked}
 use Rattle.ipc.specs.declared.opening.Opening.the-variants.{Opens, Shut}
-use Rattle.history.specs.Calls.{Call, create, send, receive, park, queued, revoke, holders, Answer, created, sent, received, parked, measured, revoked, held, answer, after}
-use Rattle.history.specs.Numbers.{numberOf}
+use Rattle.history.specs.Calls.{Call, create, revoke, created, revoked, answer}
 use Rattle.history.specs.World.{World, step, run, Reached}
-use Rattle.history.specs.Channels.{Houses}
+use Rattle.history.specs.Channels.{LivesIn}
+use Rattle.history.specs.Reach.{Reach}
 
 -- in w the creation succeeds: it makes channel n, with these ids
 pub record Makes (w : World) (ephemeral : Bool) (n : ℕ) (ids : Channel) : Type 0 where
   pub answers : answer (w .table) (create ephemeral) ≡ created (Created ids)
   pub number : n ≡ suc (w .made)
+
+-- its creation, in the calls that came to w
+pub record CreatedIn (w : World) (n : ℕ) : Type 0 where
+  pub before : World
+  pub reached : Reached before
+  pub ephemeral : Bool
+  pub ids : Channel
+  pub makes : Makes before ephemeral n ids
+  pub later : List Call
+  pub comes : w ≡ run (step before (create ephemeral)) later
+
+-- every channel that lives has one
+abbrev pub EachCreated : Type 0
+EachCreated = (w : World) → Reached w → (n k : ℕ) → LivesIn w n k → CreatedIn w n
 
 -- one of a channel's two ids
 abbrev pub IdOf : Channel → CapId → Type 0
@@ -56,54 +55,10 @@ IdOf ids c = (c ≡ ids .send) ⊎ (c ≡ ids .recv)
 -- ---- what opens
 -- c opens channel n or nothing: by each right, by either right, as a revocation asks, and in a slot as a hold
 pub record OpensOnly (w : World) (n : ℕ) (c : CapId) : Type 0 where
-  pub by : (need : CapRights) (k : ℕ) → openingOf (w .table) c need ≡ Opens k → Houses w n k
-  pub either : (k : ℕ) → eitherOf (w .table) c ≡ Opens k → Houses w n k
-  pub any : (k : ℕ) → anyRightOf (w .table) c ≡ Opens k → Houses w n k
-  pub hold : (x : Slot) → x .id ≡ c → (k : ℕ) → holdOf (w .table) x ≡ Opens k → Houses w n k
-
--- ---- what that is for each call with an id
--- the oldest of what waits, or Empty
-unfoldable pub oldestOf : List Message → RecvAnswer
-oldestOf [] = Empty
-oldestOf (m ∷ ms) = Received m
-
--- a park's answer, by what waits in the mailbox, whether it is ephemeral, its holds and its waiter
-unfoldable pub parkBy : TaskId → List Message → Bool → ℕ → Waiter → ParkAnswer
-parkBy task (m ∷ ms) ephemeral n x = Given m
-parkBy task [] ephemeral n x = pick (ephemeral && eqb n 0) Cancelled (pick (x .present && not (sameTask (x .task) task)) Busy Parked)
-
--- how a mailbox answers each call with an id
-abbrev pub sendAt : Table → ℕ → Answer
-sendAt t k = sent (pick (eqb (length (queueOf t k)) (t .sizes .depth)) Full (Sent (waiterOf t k)))
-
-abbrev pub receiveAt : Table → ℕ → Answer
-receiveAt t k = received (oldestOf (queueOf t k))
-
-abbrev pub parkAt : Table → TaskId → ℕ → Answer
-parkAt t task k = parked (parkBy task (queueOf t k) (ephemeralOf t k) (holdsOf t k) (waiterOf t k))
-
-abbrev pub queuedAt : Table → ℕ → Answer
-queuedAt t k = measured (Queued (length (queueOf t k)))
-
-abbrev pub revokeAt : Table → ℕ → Answer
-revokeAt t k = revoked (Revoked (waiterOf t k))
-
-abbrev pub holdersAt : Table → ℕ → Answer
-holdersAt t k = held (Holders (holdsOf t k))
-
--- a call on channel n or on nothing: refused with BadCap, or answered by the mailbox where n lives; no other mailbox changes
-pub data Reaches (w : World) (n : ℕ) (call : Call) (of : ℕ → Answer) : Type 0 where
-  nothing : numberOf (answer (w .table) call) ≡ no.badCap → OnlyCounts (w .table) (after (w .table) call) → Reaches w n call of
-  channel : (k : ℕ) → Houses w n k → answer (w .table) call ≡ of k → ((j : ℕ) → (j ≡ k → ⊥) → Alike (w .table) (after (w .table) call) j) → Reaches w n call of
-
--- every call with the id c
-pub record Reach (w : World) (n : ℕ) (c : CapId) : Type 0 where
-  pub send : (m : Message) → Reaches w n (send c m) (sendAt (w .table))
-  pub receive : Reaches w n (receive c) (receiveAt (w .table))
-  pub park : (task : TaskId) → Reaches w n (park c task) (parkAt (w .table) task)
-  pub queued : Reaches w n (queued c) (queuedAt (w .table))
-  pub revoke : Reaches w n (revoke c) (revokeAt (w .table))
-  pub holders : Reaches w n (holders c) (holdersAt (w .table))
+  pub by : (need : CapRights) (k : ℕ) → openingOf (w .table) c need ≡ Opens k → LivesIn w n k
+  pub either : (k : ℕ) → eitherOf (w .table) c ≡ Opens k → LivesIn w n k
+  pub any : (k : ℕ) → anyRightOf (w .table) c ≡ Opens k → LivesIn w n k
+  pub hold : (x : Slot) → x .id ≡ c → (k : ℕ) → holdOf (w .table) x ≡ Opens k → LivesIn w n k
 
 -- ---- the demand
 abbrev pub IdsKeep : Type 0
@@ -113,8 +68,8 @@ IdsKeep =
     v .made < n + 65535 → (c : CapId) → IdOf ids c → OpensOnly v n c × Reach v n c
 
 -- two live mailboxes never have one channel
-abbrev pub OneHouse : Type 0
-OneHouse = (w : World) → Reached w → (n j k : ℕ) → Houses w n j → Houses w n k → j ≡ k
+abbrev pub OneMailbox : Type 0
+OneMailbox = (w : World) → Reached w → (n j k : ℕ) → LivesIn w n j → LivesIn w n k → j ≡ k
 
 -- ---- it is not for nothing
 -- each of the two ids opens mailbox k, by its right
@@ -125,7 +80,7 @@ pub record OpensBoth (v : World) (k : ℕ) (ids : Channel) : Type 0 where
 -- right after the creation channel n lives, and its two ids, which differ, open it, each by its one right
 pub record OpensNow (v : World) (n : ℕ) (ids : Channel) : Type 0 where
   pub box : ℕ
-  pub houses : Houses v n box
+  pub lives : LivesIn v n box
   pub both : OpensBoth v box ids
   pub sends-only : openingOf (v .table) (ids .send) receiveRight ≡ Shut
   pub receives-only : openingOf (v .table) (ids .recv) sendRight ≡ Shut
@@ -138,12 +93,12 @@ IdsOpen = (w : World) → Reached w → (b : Bool) (n : ℕ) (ids : Channel) →
 abbrev pub IdsStay : Type 0
 IdsStay =
     (w : World) → Reached w → (b : Bool) (n : ℕ) (ids : Channel) → Makes w b n ids →
-    (later : List Call) → let v = run (step w (create b)) later in (k : ℕ) → Houses v n k → OpensBoth v k ids
+    (later : List Call) → let v = run (step w (create b)) later in (k : ℕ) → LivesIn v n k → OpensBoth v k ids
 
 -- ---- both sides of the edge: "Channel 1 revoked at once: its id opens nothing after 65,534 more creations; after the 65,535th it may."
 -- channel n lives nowhere, and its ids open nothing until 65,535 later creations have succeeded
 pub record Ended (u : World) (n : ℕ) (ids : Channel) : Type 0 where
-  pub gone : (k : ℕ) → Houses u n k → ⊥
+  pub gone : (k : ℕ) → LivesIn u n k → ⊥
   pub shut : u .made < n + 65535 → (d : CapId) → IdOf ids d → (need : CapRights) → openingOf (u .table) d need ≡ Shut
 
 -- so it is from a revocation on, which ends the channel of the id that it is given
@@ -169,5 +124,5 @@ pub record IdsReturn : Type 0 where
   -- and one more: both open the channel that it made
   pub made : step before (create false) .made ≡ 1 + 65535
   pub box : ℕ
-  pub houses : Houses (step before (create false)) 65536 box
+  pub lives : LivesIn (step before (create false)) 65536 box
   pub both : OpensBoth (step before (create false)) box ids

@@ -5,13 +5,11 @@ use mathlib.Core.Path.{_≡_}
 use mathlib.Core.List.{List, [], _∷_}
 use Prim.Native.Nat.{ℕ, _<_}
 use lib.Dec.{eqb}
-use lib.ListN.{getD}
 use Rattle.laws.specs.Pick.{pick}
 use Rattle.laws.specs.Refusals as no
-use Rattle.cap.specs.Slot.{vacant, holding}
+use Rattle.cap.specs.Slot.{holding}
 use Rattle.cap.specs.Word.{wordOf}
 use Rattle.cap.specs.declared.CapId.{CapId}
-use Rattle.cap.specs.declared.slot.Slot.{Slot}
 use Rattle.capslots.specs.Rows.{drainOf}
 use Rattle.capslots.specs.Table.{Shape}
 use Rattle.capslots.specs.declared.Table.{Table as Rows}
@@ -23,17 +21,13 @@ use Rattle.joined.specs.Steps.{spawnOf, leaveOf, giveOf}
 use Rattle.joined.specs.declared.answers.SpawnAnswer.the-variants.{Spawned}
 use Rattle.joined.specs.declared.answers.LeaveAnswer.the-variants.{Left}
 use Rattle.joined.specs.declared.answers.GiveAnswer.the-variants.{Given}
-use Rattle.history.specs.Calls.{Call, register, release, registered, released, answer}
+use Rattle.history.specs.Calls.{Call, register, releasing, registered, released, answer}
 use Rattle.history.specs.World.{World, run, Reached}
 
 -- ---- the calls
 -- a step that is refused with a number makes none
 unfoldable pub ifAccepted : ℕ → List Call → List Call
 ifAccepted n calls = pick (eqb n no.accepted) calls []
-
--- the release of a row's four slots
-abbrev pub releasing : List Slot → Call
-releasing ss = release (getD ss 0 vacant) (getD ss 1 vacant) (getD ss 2 vacant) (getD ss 3 vacant)
 
 -- the register of one id
 abbrev pub registering : CapId → Call

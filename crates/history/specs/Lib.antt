@@ -2,6 +2,7 @@ pub mod Calls
 pub mod World
 pub mod Channels
 pub mod Numbers
+pub mod Reach
 pub mod Ids
 pub mod Refusals
 pub mod Public
@@ -11,8 +12,10 @@ pub mod Messages
 pub mod Edges
 pub mod Idle
 pub mod Joined
+pub mod Lent
 pub mod Sequences
 pub mod Operations
+pub mod Lines
 pub mod LogIds
 pub mod LogMessages
 pub mod LogWaits

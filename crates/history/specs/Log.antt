@@ -5,21 +5,20 @@ use mathlib.Core.Path.{_≡_}
 use mathlib.Core.List.{List, [], _∷_, _++_}
 use Prim.Native.Nat.{ℕ, zero, suc, _+_, _-_, _≤_}
 use lib.ListN.{length, take, drop}
-use Rattle.laws.specs.Pick.{pick}
-use Rattle.line.specs.Line.{endOf, badOf}
+use Rattle.line.specs.Line.{decimalOf, textOf, endOf, badOf}
 use Rattle.logread.specs.Read.{readOf}
-use Rattle.oplog.specs.Step.{operandsOk, reading, textOf}
+use Rattle.oplog.specs.Step.{reading}
 use Rattle.oplog.specs.Run.{runOf}
 use Rattle.oplog.specs.Text.{most, replayText}
 use Rattle.oplog.specs.declared.Ran.{Ran}
-use Rattle.history.specs.Operations.{Operation, doneBy, Logged, operate, operated, beginning}
+use Rattle.history.specs.Operations.{Operation, Logged, operate, operated, beginning}
+use Rattle.history.specs.Lines.{lineIn}
 
 -- the operations of a log, of k records at most
 unfoldable pub recordsIn : ℕ → List ℕ → List Operation
 recordsIn zero log = []
 recordsIn (suc k) log =
-    reading (readOf log) (λ _. []) (λ op len.
-    pick (operandsOk op log) (record { number = op; bytes = log } ∷ recordsIn k (drop len log)) [])
+    reading (readOf log) (λ _. []) (λ op len. record { number = op; bytes = log } ∷ recordsIn k (drop len log))
 
 -- a record takes three bytes or more
 abbrev pub recordsOf : List ℕ → List Operation
@@ -33,10 +32,10 @@ abbrev pub RunsOver : Type 0
 RunsOver = (s : Logged) (log out : List ℕ) (before : ℕ) → let r = runOf log before out (s .tables) .answer in r .tables ≡ ranOver s log before r .tables
 
 -- ---- what replay prints
--- the lines of operations, after `before` records
+-- the lines of operations, after `before` records: each is its record's number and then `lineIn`, in decimal
 unfoldable pub linesOf : ℕ → Logged → List Operation → List ℕ
 linesOf before s [] = []
-linesOf before s (o ∷ os) = textOf (before + 1) (o .number) (doneBy o (s .tables)) ++ linesOf (before + 1) (operate s o) os
+linesOf before s (o ∷ os) = textOf (decimalOf (before + 1)) (lineIn s o) ++ linesOf (before + 1) (operate s o) os
 
 -- the last line, after n records
 pub data Last (n : ℕ) : List ℕ → Type 0 where

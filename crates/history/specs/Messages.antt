@@ -3,7 +3,8 @@
 --
 --   "A message accepted"                     `accepted w n (send c m) ≡ m ∷ []`: in the world w, the message m is sent by an id c that opens
 --                                            channel n, and the answer is Sent
---   "behind q others"                        `length (queueOf (w .table) k) ≡ q`: as the send comes, q messages wait in mailbox k, where n lives
+--   "behind q others"                        `length (queueOf (w .table) k) ≡ q`: as the send comes, q messages wait in mailbox k, where n lives;
+--                                            they are those accepted since the creation of channel n and not given yet (`BehindCounted`)
 --   "call after it"                          calls from the world `step w (send c m)` on, whatever they are and whatever they answer
 --   "that gives a message from that channel" `given v n d ≡ x ∷ []`: in the world v, the call d is a try to receive or a park by an id that
 --                                            opens channel n, and x is the message in its answer; every other call gives `[]`, nothing
@@ -14,9 +15,9 @@
 --   "unless the channel is revoked first"    `Spares v n before`: no call before d revokes n. Until d comes, m waits (`WaitsItsTurn`); from a
 --                                            revocation on nothing is given (`NothingMore`)
 use mathlib.Core.Path.{_≡_}
-use mathlib.Core.Bool.{true}
+use mathlib.Core.Bool.{Bool, true}
 use mathlib.Core.List.{List, [], _∷_, _++_}
-use Prim.Native.Nat.{ℕ, _-_, _≤_, _<_}
+use Prim.Native.Nat.{ℕ, _+_, _-_, _≤_, _<_}
 use lib.ListN.{getD, length}
 use Rattle.cap.specs.Rights.{sendRight, receiveRight}
 use Rattle.cap.specs.declared.CapId.{CapId}
@@ -24,23 +25,39 @@ use Rattle.ipc.specs.State.{freshMessage}
 use Rattle.ipc.specs.Send.{sendOf}
 use Rattle.ipc.specs.Receive.{recvOf, parkOf}
 use Rattle.ipc.specs.Views.{queueOf}
+use Rattle.ipc.specs.declared.state.Channel.{Channel}
 use Rattle.ipc.specs.declared.state.Message.{Message}
 use Rattle.ipc.specs.declared.state.TaskId.{TaskId}
 use Rattle.ipc.specs.declared.state.Waiter.{Waiter}
 use Rattle.ipc.specs.declared.answers.SendAnswer.the-variants.{Sent}
 use Rattle.ipc.specs.declared.answers.RecvAnswer.the-variants.{Received}
 use Rattle.ipc.specs.declared.answers.ParkAnswer.the-variants.{Given}
-use Rattle.history.specs.Calls.{Call, send, receive, park}
+use Rattle.history.specs.Calls.{Call, create, send, receive, park}
 use Rattle.history.specs.World.{World, step, run, Reached}
-use Rattle.history.specs.Channels.{Houses, on}
+use Rattle.history.specs.Channels.{LivesIn, on}
+use Rattle.history.specs.Ids.{Makes}
 use Rattle.history.specs.Traffic.{accepted, given, revokes, allAccepted, allGiven, Spares}
 
 -- ---- the sentence
 -- m is accepted on channel n, which lives in mailbox k, behind q others
 pub record AcceptedBehind (w : World) (n k q : ℕ) (c : CapId) (m : Message) : Type 0 where
-  pub houses : Houses w n k
+  pub lives : LivesIn w n k
   pub accepts : accepted w n (send c m) ≡ m ∷ []
   pub others : length (queueOf (w .table) k) ≡ q
+
+-- v is the world in which channel n was just made; after the calls `before`, q messages of those accepted were not given yet
+pub record CountedBehind (v : World) (n k q : ℕ) (before : List Call) : Type 0 where
+  pub unrevoked : Spares v n before
+  pub count : length (allGiven v n before) + q ≡ length (allAccepted v n before)
+  -- and these are the ones that wait
+  pub order : allGiven v n before ++ queueOf (run v before .table) k ≡ allAccepted v n before
+
+-- "behind q others", counted from the creation of channel n on
+abbrev pub BehindCounted : Type 0
+BehindCounted =
+    (w : World) → Reached w → (b : Bool) (n : ℕ) (ids : Channel) → Makes w b n ids →
+    (before : List Call) → let v = step w (create b) in
+    (k q : ℕ) (c : CapId) (m : Message) → AcceptedBehind (run v before) n k q c m → CountedBehind v n k q before
 
 -- v is the world with m; after the calls `before`, the call d gives x
 pub record Once (w v : World) (n k : ℕ) (m : Message) (before : List Call) (d : Call) (x : Message) : Type 0 where
@@ -88,8 +105,8 @@ EachHasItsCall = (w : World) (n q : ℕ) (cs : List Call) → q < length (allGiv
 -- channel n stays where it lives; what was given and then what waits is what waited and then what was accepted
 abbrev pub InOrder : Type 0
 InOrder =
-    (w : World) → Reached w → (n k : ℕ) → Houses w n k → (cs : List Call) → Spares w n cs →
-    Houses (run w cs) n k × (allGiven w n cs ++ queueOf (run w cs .table) k ≡ queueOf (w .table) k ++ allAccepted w n cs)
+    (w : World) → Reached w → (n k : ℕ) → LivesIn w n k → (cs : List Call) → Spares w n cs →
+    LivesIn (run w cs) n k × (allGiven w n cs ++ queueOf (run w cs .table) k ≡ queueOf (w .table) k ++ allAccepted w n cs)
 
 -- ---- before its turn, and after a revocation
 -- until its turn m waits: it stands in the queue behind those of the others that were not given yet
@@ -110,13 +127,13 @@ NothingMore =
 -- a send by an id that opens channel n is accepted where there is room
 abbrev pub GoesIn : Type 0
 GoesIn =
-    (w : World) → Reached w → (n k : ℕ) → Houses w n k → length (queueOf (w .table) k) < w .table .sizes .depth →
+    (w : World) → Reached w → (n k : ℕ) → LivesIn w n k → length (queueOf (w .table) k) < w .table .sizes .depth →
     (c : CapId) (m : Message) → on w n c sendRight ≡ true → AcceptedBehind w n k (length (queueOf (w .table) k)) c m
 
 -- the oldest message is given by each try to receive and each park by an id that opens channel n
 abbrev pub ComesOut : Type 0
 ComesOut =
-    (w : World) → Reached w → (n k : ℕ) → Houses w n k → (m : Message) (rest : List Message) → queueOf (w .table) k ≡ m ∷ rest →
+    (w : World) → Reached w → (n k : ℕ) → LivesIn w n k → (m : Message) (rest : List Message) → queueOf (w .table) k ≡ m ∷ rest →
     (c : CapId) → on w n c receiveRight ≡ true → (given w n (receive c) ≡ m ∷ []) × ((task : TaskId) → given w n (park c task) ≡ m ∷ [])
 
 -- ---- no answer is left out

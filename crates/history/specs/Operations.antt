@@ -4,15 +4,13 @@
 use mathlib.Core.Path.{_≡_}
 use mathlib.Core.Bool.{Bool, true, _&&_, not}
 use mathlib.Core.List.{List, [], _∷_, _++_}
-use Prim.Native.Nat.{ℕ, _≤_, _<_}
+use Prim.Native.Nat.{ℕ}
 use lib.Dec.{eqb}
-use lib.ListN.{getD, length}
+use lib.ListN.{getD}
 use Rattle.laws.specs.Pick.{pick}
-use Rattle.laws.specs.Refusals as no
 use Rattle.capslots.specs.Table.{Shape}
 use Rattle.ipc.specs.Make.{inRange, sizesOf}
 use Rattle.ipc.specs.declared.state.Sizes.{Sizes}
-use Rattle.ipc.specs.declared.state.Table.{Table}
 use Rattle.logread.specs.Little.{byteAt}
 use Rattle.logread.specs.Lists.{listSlots, listWords}
 use Rattle.operations.specs.Apply.{applyOf}
@@ -20,10 +18,9 @@ use Rattle.operations.specs.Channels.{allFresh}
 use Rattle.operations.specs.Done.{Done}
 use Rattle.operations.specs.Operands.{idAt, taskAt, messageAt}
 use Rattle.operations.specs.declared.Tables.{Tables}
-use Rattle.history.specs.Calls.{Call, create, send, receive, park, queued, revoke, register, holders, clear, noteAuthority, noteState, counts, answer}
-use Rattle.history.specs.Numbers.{numberOf, valuesOf}
+use Rattle.history.specs.Calls.{Call, create, send, receive, park, queued, revoke, register, releasing, holders, clear, noteAuthority, noteState, counts}
 use Rattle.history.specs.World.{World, run, start, Reached}
-use Rattle.history.specs.Joined.{releasing, spawnCalls, leaveCalls, giveCalls}
+use Rattle.history.specs.Joined.{spawnCalls, leaveCalls, giveCalls}
 
 -- an operation by its number, with the log from the start of its record
 pub record Operation : Type 0 where
@@ -70,22 +67,6 @@ allCalls log t =
 
 unfoldable pub callsOf : Operation → Tables → List Call
 callsOf o t = getD (allCalls (o .bytes) t) (o .number) []
-
--- none makes two
-abbrev pub OneAtMost : Type 0
-OneAtMost = (o : Operation) (t : Tables) → length (callsOf o t) ≤ 1
-
--- ---- the line
--- the number and the values that it shows are those of the call's answer
-pub record Tells (t : Table) (c : Call) (d : Done) : Type 0 where
-  pub number : d .number ≡ numberOf (answer t c)
-  pub values : d .values ≡ valuesOf (answer t c)
-
--- so it is for every operation that makes a call
-abbrev pub OperationsTell : Type 0
-OperationsTell =
-    (o : Operation) → ((i : ℕ) → byteAt (o .bytes) i < 256) → (t : Tables) → Shape (t .rows) →
-    (c : Call) → callsOf o t ≡ c ∷ [] → Tells (t .channels) c (doneBy o t)
 
 -- ---- sequences
 -- 0, new (m, e, d): the sizes, and whether it is accepted

@@ -6,8 +6,9 @@
 --     the place of its turn in the list, `turnOf` (`Names`).
 -- "accepted send on its channel": `ends` at `send`. The id opens channel n for send, and the answer's number is 0, for accepted.
 -- "its revocation": `ends` at `revoke`. The id opens channel n as a revocation asks, by either right.
--- "if ephemeral, the release that leaves no send hold": `ends` at `release`. The channel was created ephemeral, and its holds, less those of
---     the four slots that hold its send end, are 0. Holds are the table's count of them, which stops at 4,294,967,295.
+-- "if ephemeral, the release that leaves no send hold": `ends` at `release`. The channel was created ephemeral (the mailbox's flag is what
+--     the creation was called with, `KindStays`), and its holds, less those of the four slots that hold its send end, are 0. Holds are the
+--     table's count of them, which stops at 4,294,967,295.
 -- "a clearing of that task": `ends` at `clear`. The task that is cleared is x. Such a call answers how many it cleared (`Clears`).
 -- "the first later", "whichever comes first", "sooner": no call before it is one of these (`Quiet`, `First`).
 -- "Nothing else ends the wait": every other call is false in `ends`, and through every run of such calls x waits on. Every run is
@@ -30,6 +31,7 @@ use Rattle.ipc.specs.Answers.{sendNumber}
 use Rattle.ipc.specs.Send.{sendOf}
 use Rattle.ipc.specs.Receive.{sameTask, waiting}
 use Rattle.ipc.specs.Views.{waiterOf, holdsOf, ephemeralOf, heldBy, heldIn}
+use Rattle.ipc.specs.declared.state.Channel.{Channel}
 use Rattle.ipc.specs.declared.state.TaskId.{TaskId}
 use Rattle.ipc.specs.declared.state.Message.{Message}
 use Rattle.ipc.specs.declared.state.Waiter.{Waiter}
@@ -41,12 +43,13 @@ use Rattle.ipc.specs.declared.answers.RevokeAnswer.the-variants.{Revoked}
 use Rattle.ipc.specs.declared.opening.Opening.the-variants.{Opens}
 use Rattle.history.specs.Calls.{Call, create, send, receive, park, queued, revoke, register, release, holders, clear, noteAuthority, noteState, counts, sent, parked, revoked, released, fourSlots, answer}
 use Rattle.history.specs.World.{World, step, run, Reached}
-use Rattle.history.specs.Channels.{Houses, on, onAny}
+use Rattle.history.specs.Channels.{LivesIn, on, onAny}
+use Rattle.history.specs.Ids.{Makes}
 
 -- ---- who waits
 -- task x waits on channel n, which lives in mailbox k
 pub record Waits (w : World) (n k : ℕ) (x : TaskId) : Type 0 where
-  pub houses : Houses w n k
+  pub lives : LivesIn w n k
   pub waiter : waiterOf (w .table) k ≡ waiting x
 
 -- ---- what ends the wait
@@ -112,6 +115,13 @@ pub record First (w : World) (n k : ℕ) (x : TaskId) (cs : List Call) : Type 0 
   pub split : cs ≡ before ++ (call ∷ behind)
   pub quiet : Quiet w n k x before
   pub ender : ends (run w before) n k x call ≡ true
+
+-- ---- "if ephemeral"
+-- wherever channel n still lives, the flag that a release looks at is the one that its creation was called with
+abbrev pub KindStays : Type 0
+KindStays =
+    (w : World) → Reached w → (b : Bool) (n : ℕ) (ids : Channel) → Makes w b n ids →
+    (later : List Call) → let v = run (step w (create b)) later in (k : ℕ) → LivesIn v n k → ephemeralOf (v .table) k ≡ b
 
 -- ---- the theorems
 -- through every quiet run the task waits on; the first call that ends the wait names it or is a clearing of it, and then it waits no more

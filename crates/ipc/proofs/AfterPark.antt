@@ -1,8 +1,8 @@
 -- Park, `parkOf`: its ways, and what each changes and leaves. Assumes nothing.
 use mathlib.Core.Path.{_≡_, refl, ap}
-use mathlib.Core.Bool.{true, false, _&&_, not}
+use mathlib.Core.Bool.{true, false}
 use mathlib.Core.List.{[]}
-use Prim.Native.Nat.{ℕ, _-_, _<_, _≤_}
+use Prim.Native.Nat.{ℕ, _<_, _≤_}
 use native.Mathlib.Omega.{arith}
 use borrow.Author.Tests.{eqb-true, ltb-true, ltb-false}
 use lib.Dec.{eqb}
@@ -14,7 +14,7 @@ use Rattle.ipc.specs.State.{mailboxAt, mailboxLive, messageAt, withWaite
 use Rattle.ipc.specs.Sound.{Sound}
 use Rattle.ipc.specs.Counts.{authorityRaised, stateRaised}
 use Rattle.ipc.specs.Opening.{openingOf}
-use Rattle.ipc.specs.Receive.{parkOf, oldest, sameTask, waiting, parkedIn}
+use Rattle.ipc.specs.Receive.{parkOf, oldest, otherWaits, waiting, parkedIn}
 use Rattle.ipc.specs.Views.{ringFrom, queueOf, waiterOf, holdsOf, ephemeralOf, Alike, Steady, OnlyMailbox}
 use Rattle.ipc.specs.declared.state.Mailbox.{Mailbox}
 use Rattle.ipc.specs.declared.state.Message.{Message}
@@ -66,7 +66,7 @@ module _ (t : Table) (k : ℕ) (task : TaskId) (s : Sound t) (l : mailboxLive t 
   unfolding queueOf
   same-queue = ap (λ (x : Mailbox). ringFrom (messageAt t k) (t .sizes .depth) (x .tail) (x .len)) with-task
 
-  parks : (b .waiter .present && not (sameTask (b .waiter .task) task)) ≡ false → Parks t k task (parkedIn t k task)
+  parks : otherWaits (b .waiter) task ≡ false → Parks t k task (parkedIn t k task)
   parks h =
       record {
         free = none-other (b .waiter) task h;

@@ -1,16 +1,15 @@
 -- How a choice by an opening is settled, and what an opening says of the endpoint and the mailbox. Assumes nothing.
-use mathlib.Core.Path.{_≡_, refl, sym, ap, _∙_}
+use mathlib.Core.Path.{_≡_, refl, ap, _∙_}
 use mathlib.Core.Bool.{Bool, true, false}
 use mathlib.Core.List.{List}
 use mathlib.Core.Logic.{_⊎_, inl, inr, ⊎-elim}
 use Prim.Native.Nat.{ℕ, _<_, _≤_, _%_}
 use native.Mathlib.Omega.{arith}
-use native.Mathlib.Nat.{mod-eq-of-lt}
 use borrow.Author.Tests.{ltb-true, ltb-false, eqb-true}
 use lib.Dec.{ltb, eqb}
 use lib.Seq.{getD-set-same}
 use Rattle.laws.specs.Pick.{pick}
-use Rattle.laws.proofs.Cases.{all-pick, not-both}
+use Rattle.laws.proofs.Cases.{yes, no, all-pick, not-both}
 use Rattle.cap.specs.Id.{indexOf, generationOf}
 use Rattle.cap.specs.Rights.{containsAll, sendRight, receiveRight}
 use Rattle.cap.specs.declared.CapId.{CapId}
@@ -18,10 +17,9 @@ use Rattle.cap.specs.declared.CapRights.{CapRights}
 use Rattle.cap.specs.declared.slot.Slot.{Slot}
 use Rattle.ipc.specs.State.{freshMailbox, withMailbox, endIn, endpointAt, endpointLive, mailboxAt, mailboxLive}
 use Rattle.ipc.specs.Sound.{Sound, InRange, Ring}
-use Rattle.ipc.specs.Opening.{openOf, openEither, openAny, openHold, openingOf, eitherOf, anyRightOf, holdOf, opened}
+use Rattle.ipc.specs.Opening.{openOf, openEither, openAny, openingOf, eitherOf, anyRightOf, holdOf, opened}
 use Rattle.ipc.specs.declared.state.Endpoint.{Endpoint}
 use Rattle.ipc.specs.declared.state.Mailbox.{Mailbox}
-use Rattle.ipc.specs.declared.state.Sizes.{Sizes}
 use Rattle.ipc.specs.declared.state.Table.{Table}
 use Rattle.ipc.specs.declared.opening.Opening.{Opening}
 use Rattle.ipc.specs.declared.opening.Opening.the-variants.{Opens, Shut}
@@ -67,9 +65,14 @@ module _ (t : Table) (i : ℕ) (q : Opening) (s : Sound t) where
   unfolding anyRightOf openAny pick
   any-gave c h g = looked (λ b e. openAny b e c) (λ _ _. refl) (t .endpoints) (t .sizes .endpoints) (s .sizes .endpoints) i _ q h g
 
-  pub hold-gave : (x : Slot) → i ≡ indexOf (x .id) → q ≡ openHold (ltb i (t .sizes .endpoints)) (endIn (t .endpoints) (i % 64)) x → q ≡ holdOf t x
-  unfolding holdOf openHold openOf pick
-  hold-gave x h g = looked (λ b e. openHold b e x) (λ _ _. refl) (t .endpoints) (t .sizes .endpoints) (s .sizes .endpoints) i _ q h g
+  pub hold-gave : (x : Slot) → x .present ≡ true → i ≡ indexOf (x .id) → q ≡ openOf (ltb i (t .sizes .endpoints)) (endIn (t .endpoints) (i % 64)) (x .id) sendRight → q ≡ holdOf t x
+  unfolding holdOf
+  hold-gave x p h g = yes _ p (open-gave (x .id) sendRight h g)
+
+-- a vacant slot holds no send end
+pub hold-vacant : (t : Table) (x : Slot) → x .present ≡ false → Shut ≡ holdOf t x
+unfolding holdOf
+hold-vacant t x p = no _ p refl
 
 -- what opens: the tests that it passed, and the mailbox that it names
 pub record Opened (t : Table) (c : CapId) (need : CapRights) (k : ℕ) : Type 0 where
@@ -146,9 +149,9 @@ either-within t c k s e = ⊎-elim (opens-within t c sendRight k s) (opens-withi
 
 -- a hold is of a present id that opens for send
 pub hold-opens : (t : Table) (x : Slot) (k : ℕ) → holdOf t x ≡ Opens k → (x .present ≡ true) × (openingOf t (x .id) sendRight ≡ Opens k)
-unfolding holdOf openHold openingOf
+unfolding holdOf
 hold-opens t x k =
-    all-pick (λ o. o ≡ Opens k → (x .present ≡ true) × (openOf (ltb (indexOf (x .id)) (t .sizes .endpoints)) (endpointAt t (indexOf (x .id))) (x .id) sendRight ≡ Opens k)) (x .present) _ _
+    all-pick (λ o. o ≡ Opens k → (x .present ≡ true) × (openingOf t (x .id) sendRight ≡ Opens k)) (x .present) _ _
     (λ p e. (p, e)) (λ _ e. let z : _≡_ {A = ℕ} 0 1 = cc in absurd (omega arith))
 
 pub hold-within : (t : Table) (x : Slot) (k : ℕ) → Sound t → holdOf t x ≡ Opens k → Within t k

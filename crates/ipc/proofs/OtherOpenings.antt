@@ -14,7 +14,7 @@ use Rattle.cap.specs.declared.CapRights.{CapRights}
 use Rattle.cap.specs.declared.slot.Slot.{Slot}
 use Rattle.ipc.specs.State.{endpointAt}
 use Rattle.ipc.specs.Sound.{Sound}
-use Rattle.ipc.specs.Opening.{openOf, openEither, openAny, openHold, openingOf, eitherOf, anyRightOf, holdOf, opened}
+use Rattle.ipc.specs.Opening.{openOf, openEither, openAny, openingOf, eitherOf, anyRightOf, holdOf, opened}
 use Rattle.ipc.specs.Views.{Steady}
 use Rattle.ipc.specs.declared.state.Table.{Table}
 use Rattle.ipc.specs.declared.opening.Opening.the-variants.{Opens, Shut}
@@ -24,7 +24,7 @@ unfolding eitherOf openEither openingOf
 either-is t c = refl
 
 pub hold-is : (t : Table) (x : Slot) → holdOf t x ≡ pick (x .present) (openingOf t (x .id) sendRight) Shut
-unfolding holdOf openHold openingOf
+unfolding holdOf
 hold-is t x = refl
 
 -- the tests of a revocation's opening and those of the two rights, of which a live endpoint has one

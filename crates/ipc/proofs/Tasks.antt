@@ -1,11 +1,11 @@
 -- When two tasks are one, and when a task waits. Assumes nothing.
-use mathlib.Core.Path.{_≡_, refl, ap}
-use mathlib.Core.Bool.{Bool, true, false, _&&_, not}
-use borrow.Author.Tests.{eqb-true, eq-eqb, not-true}
+use mathlib.Core.Path.{_≡_, refl, sym, ap}
+use mathlib.Core.Bool.{true, false}
+use borrow.Author.Tests.{eqb-true, eq-eqb, not-true, not-false}
 use lib.Dec.{eqb}
-use Rattle.laws.proofs.Cases.{not-both}
+use Rattle.laws.proofs.Cases.{yes, all-pick, not-both}
 use Rattle.laws.proofs.Every.{and-left, and-right, and-both}
-use Rattle.ipc.specs.Receive.{sameTask, waiting}
+use Rattle.ipc.specs.Receive.{sameTask, otherWaits, waiting}
 use Rattle.ipc.specs.Waiters.{waitsOn}
 use Rattle.ipc.specs.declared.state.Mailbox.{Mailbox}
 use Rattle.ipc.specs.declared.state.TaskId.{TaskId}
@@ -27,22 +27,21 @@ waits-is w task p h = let e = same-task (w .task) task h in λ i. record { prese
 
 -- a mailbox on which the task waits, and back
 pub on-waits : (b : Mailbox) (task : TaskId) → waitsOn b task ≡ true → b .waiter ≡ waiting task
-on-waits b task h =
-    waits-is (b .waiter) task (and-left (b .waiter .present) (sameTask (b .waiter .task) task) h) (and-right (b .waiter .present) (sameTask (b .waiter .task) task) h)
+on-waits b task =
+    all-pick (λ v. v ≡ true → b .waiter ≡ waiting task) (b .waiter .present) _ _ (λ p h. waits-is (b .waiter) task p h)
+    (λ _ h. absurd (not-both false h refl))
 
 pub waits-on : (b : Mailbox) (task : TaskId) → b .waiter ≡ waiting task → waitsOn b task ≡ true
-waits-on b task e =
-    and-both (b .waiter .present) (sameTask (b .waiter .task) task) (ap (λ (w : Waiter). w .present) e) (task-same _ _ (ap (λ (w : Waiter). w .task) e))
+waits-on b task e = sym (yes _ (ap (λ (w : Waiter). w .present) e) (sym (task-same _ _ (ap (λ (w : Waiter). w .task) e))))
 
 -- another task waits, or none does but that one
-pub other-waits : (w : Waiter) (task : TaskId) → (w .present && not (sameTask (w .task) task)) ≡ true → (w .present ≡ true) × (w ≡ waiting task → ⊥)
-other-waits w task h =
-    let n = not-true (sameTask (w .task) task) (and-right (w .present) (not (sameTask (w .task) task)) h) in
-    (and-left (w .present) (not (sameTask (w .task) task)) h, λ e. not-both _ (task-same _ _ (ap (λ (x : Waiter). x .task) e)) n)
+pub other-waits : (w : Waiter) (task : TaskId) → otherWaits w task ≡ true → (w .present ≡ true) × (w ≡ waiting task → ⊥)
+other-waits w task =
+    all-pick (λ v. v ≡ true → (w .present ≡ true) × (w ≡ waiting task → ⊥)) (w .present) _ _
+    (λ p h. (p, λ e. not-both _ (task-same _ _ (ap (λ (x : Waiter). x .task) e)) (not-true _ h)))
+    (λ _ h. absurd (not-both false h refl))
 
-pub none-other : (w : Waiter) (task : TaskId) → (w .present && not (sameTask (w .task) task)) ≡ false → w .present ≡ true → w ≡ waiting task
-none-other w task h p = by (sameTask (w .task) task) refl
-  where
-    by : (b : Bool) → sameTask (w .task) task ≡ b → w ≡ waiting task
-    by true e = waits-is w task p e
-    by false e = absurd (not-both _ (simp (p, e)) h)
+pub none-other : (w : Waiter) (task : TaskId) → otherWaits w task ≡ false → w .present ≡ true → w ≡ waiting task
+none-other w task =
+    all-pick (λ v. v ≡ false → w .present ≡ true → w ≡ waiting task) (w .present) _ _ (λ p h _. waits-is w task p (not-false _ h))
+    (λ n _ p. absurd (not-both _ p n))

@@ -38,6 +38,10 @@ abbrev pub newNumber : new.NewAnswer → ℕ
 newNumber new.the-variants.Made = no.accepted
 newNumber new.the-variants.BadSizes = no.badSizes
 
+abbrev pub newValues : new.NewAnswer → List ℕ
+newValues new.the-variants.Made = []
+newValues new.the-variants.BadSizes = []
+
 abbrev pub createNumber : create.CreateAnswer → ℕ
 createNumber (create.the-variants.Created c) = no.accepted
 createNumber create.the-variants.NoMailbox = no.noMailbox
@@ -116,6 +120,11 @@ registerNumber register.the-variants.Registered = no.accepted
 registerNumber register.the-variants.BadWord = no.badWord
 registerNumber register.the-variants.BadTable = no.badTable
 
+abbrev pub registerValues : register.RegisterAnswer → List ℕ
+registerValues register.the-variants.Registered = []
+registerValues register.the-variants.BadWord = []
+registerValues register.the-variants.BadTable = []
+
 abbrev pub releaseNumber : release.ReleaseAnswer → ℕ
 releaseNumber release.the-variants.Released = no.accepted
 releaseNumber release.the-variants.BadTable = no.badTable
@@ -146,6 +155,10 @@ clearValues clear.the-variants.BadTable = []
 abbrev pub noteNumber : note.NoteAnswer → ℕ
 noteNumber note.the-variants.Noted = no.accepted
 noteNumber note.the-variants.BadTable = no.badTable
+
+abbrev pub noteValues : note.NoteAnswer → List ℕ
+noteValues note.the-variants.Noted = []
+noteValues note.the-variants.BadTable = []
 
 abbrev pub countsNumber : counts.RefusalsAnswer → ℕ
 countsNumber (counts.the-variants.Counts r) = no.accepted

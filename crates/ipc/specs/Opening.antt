@@ -39,11 +39,7 @@ opened (Opens k) a f = f k
 unfoldable pub openEither : Bool → Endpoint → CapId → Opening
 openEither below e c = opened (openOf below e c sendRight) (openOf below e c receiveRight) Opens
 
--- the send end that a slot holds: a vacant slot opens nothing
-unfoldable pub openHold : Bool → Endpoint → Slot → Opening
-openHold below e s = pick (s .present) (openOf below e (s .id) sendRight) Shut
-
--- what an id opens in a table: with the right `need`, by either right, as a revocation asks, and as a hold
+-- what an id opens in a table: with the right `need`, by either right, and as a revocation asks
 unfoldable pub openingOf : Table → CapId → CapRights → Opening
 openingOf t c need = openOf (ltb (indexOf c) (t .sizes .endpoints)) (endpointAt t (indexOf c)) c need
 
@@ -53,5 +49,6 @@ eitherOf t c = openEither (ltb (indexOf c) (t .sizes .endpoints)) (endpointAt t 
 unfoldable pub anyRightOf : Table → CapId → Opening
 anyRightOf t c = openAny (ltb (indexOf c) (t .sizes .endpoints)) (endpointAt t (indexOf c)) c
 
+-- the send end that a slot holds: a vacant slot holds none, and its id is not read
 unfoldable pub holdOf : Table → Slot → Opening
-holdOf t s = openHold (ltb (indexOf (s .id)) (t .sizes .endpoints)) (endpointAt t (indexOf (s .id))) s
+holdOf t s = pick (s .present) (openingOf t (s .id) sendRight) Shut

@@ -1,5 +1,5 @@
 -- Document 01, "Channels": try to receive, and park.
-use mathlib.Core.Bool.{Bool, true, _&&_, not}
+use mathlib.Core.Bool.{Bool, true, false, _&&_, not}
 use Prim.Native.Nat.{ℕ, _+_, _-_, _%_}
 use lib.Dec.{ltb, eqb}
 use Rattle.laws.specs.Pick.{pick}
@@ -40,6 +40,10 @@ recvOf t c =
 abbrev pub sameTask : TaskId → TaskId → Bool
 sameTask x y = eqb (x .slot) (y .slot) && eqb (x .epoch) (y .epoch)
 
+-- another task waits: the place is not vacant, and the task in it is not this one
+abbrev pub otherWaits : Waiter → TaskId → Bool
+otherWaits w task = pick (w .present) (not (sameTask (w .task) task)) false
+
 abbrev pub waiting : TaskId → Waiter
 waiting task = record { present = true; task = task }
 
@@ -52,5 +56,5 @@ parkOf t c task =
     opened (openingOf t c receiveRight) (record { answer = park.the-variants.BadCap; table = authorityRaised t }) (λ k.
     pick (ltb 0 (mailboxAt t k .len)) (record { answer = park.the-variants.Given (oldest t k); table = takenFrom t k })
     (pick (mailboxAt t k .«auto_reap» && eqb (mailboxAt t k .«send_holders») 0) (record { answer = park.the-variants.Cancelled; table = t })
-    (pick (mailboxAt t k .waiter .present && not (sameTask (mailboxAt t k .waiter .task) task)) (record { answer = park.the-variants.Busy; table = stateRaised t })
+    (pick (otherWaits (mailboxAt t k .waiter) task) (record { answer = park.the-variants.Busy; table = stateRaised t })
     (record { answer = park.the-variants.Parked; table = parkedIn t k task }))))

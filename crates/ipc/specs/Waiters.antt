@@ -1,7 +1,6 @@
 -- Document 01, "Channels": `clear_waiter` removes that task from every mailbox and counts.
-use mathlib.Core.Bool.{Bool, _&&_}
+use mathlib.Core.Bool.{Bool, false}
 use mathlib.Core.List.{map}
-use Prim.Native.Nat.{ℕ}
 use Rattle.laws.specs.Pick.{pick}
 use Rattle.laws.specs.Every.{count}
 use Rattle.ipc.specs.State.{nobody, mailboxAt, withMailboxes, withWaiter}
@@ -10,12 +9,11 @@ use Rattle.ipc.specs.declared.state.Mailbox.{Mailbox}
 use Rattle.ipc.specs.declared.state.TaskId.{TaskId}
 use Rattle.ipc.specs.declared.state.Table.{Table}
 use Rattle.ipc.specs.declared.answers.Clearing.{Clearing}
-use Rattle.ipc.specs.declared.answers.ClearAnswer.{ClearAnswer}
 use Rattle.ipc.specs.declared.answers.ClearAnswer.the-variants.{Cleared}
 
--- the task waits on the mailbox
+-- the task waits on the mailbox: someone does, and it is that task
 abbrev pub waitsOn : Mailbox → TaskId → Bool
-waitsOn b task = b .waiter .present && sameTask (b .waiter .task) task
+waitsOn b task = pick (b .waiter .present) (sameTask (b .waiter .task) task) false
 
 unfoldable pub withoutWaiter : TaskId → Mailbox → Mailbox
 withoutWaiter task b = pick (waitsOn b task) (withWaiter b nobody) b

@@ -1,10 +1,9 @@
 // Whether an id opens an endpoint: the one door to a mailbox.
 ghost use mathlib.Core.Path.{_≡_};
-ghost use Rattle.ipc.specs.Opening.{openOf, openEither, openAny, openHold};
+ghost use Rattle.ipc.specs.Opening.{openOf, openEither, openAny};
 use crate::state::Endpoint;
 use cap::CapId;
 use cap::CapRights;
-use cap::Slot;
 
 // What an id opens: a mailbox, or nothing. Why nothing is not said: that would tell a forger what to mend.
 pub enum Opening {
@@ -56,15 +55,4 @@ pub fn open_any(below: bool, ep: Endpoint, cap: CapId) -> Opening
         return Opening::Shut;
     }
     Opening::Opens(ep.mailbox as usize)
-}
-
-// The send end that a slot holds, if it holds one.
-pub fn open_hold(below: bool, ep: Endpoint, slot: Slot) -> Opening
-    ensures { λ r. ⌜ r ≡ openHold below ep slot ⌝ }
-{
-    if !slot.present {
-        return Opening::Shut;
-    }
-    let id = slot.id;
-    open(below, ep, id, CapRights::SEND)
 }

@@ -2,11 +2,7 @@
 use Prim.Native.Nat.{ℕ}
 use lib.ListN.{replicate}
 use Rattle.laws.specs.declared.Place.{Place}
-use Rattle.laws.specs.declared.Place.the-variants.{At, Nowhere}
-use Rattle.cap.specs.Id.{classOf}
 use Rattle.cap.specs.declared.CapId.{CapId}
-use Rattle.cap.specs.declared.CapClass.{CapClass}
-use Rattle.cap.specs.declared.CapClass.the-variants.{Endpoint, Task, Irq, Invalid}
 use Rattle.mint.specs.Entry.{noEntry}
 use Rattle.mint.specs.Entries.{freeEntry, mintWith, lookupIn}
 use Rattle.mint.specs.declared.LookupAnswer.{LookupAnswer}
@@ -25,13 +21,6 @@ freeEntryOf t = freeEntry 8 (t .entries)
 unfoldable pub mintOf : Table → ℕ → Minted
 mintOf t cookie = mintWith 8 32768 (t .entries) cookie (λ a es. record { answer = a; table = record { entries = es } })
 
--- the entry that an id of this class names
-unfoldable pub irqPlace : CapClass → Place
-irqPlace (Endpoint p) = Nowhere
-irqPlace (Task p) = Nowhere
-irqPlace (Irq p) = At p
-irqPlace Invalid = Nowhere
-
 -- the cookie that an id names
 unfoldable pub lookupOf : Table → CapId → LookupAnswer
-lookupOf t c = lookupIn 8 (t .entries) (irqPlace (classOf c)) c
+lookupOf t c = lookupIn 8 32768 (t .entries) c

@@ -25,11 +25,7 @@ pub struct Minted {
 pub fn new() -> Table
     ensures { λ r. ⌜ r ≡ freshTable ⌝ }
 {
-    let empty = Entry {
-        live: false,
-        generation: 0,
-        number: 0,
-    };
+    let empty = Entry::EMPTY;
     Table {
         entries: [empty; MAX_IRQ_CAPS],
     }

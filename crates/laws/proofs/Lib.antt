@@ -1,5 +1,7 @@
 pub mod Cases
 pub mod Search
+pub mod Found
+pub mod Together
 pub mod Every
 pub mod Bools
 pub mod Lists

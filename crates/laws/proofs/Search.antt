@@ -1,6 +1,7 @@
 -- The lowest free place: one turn of a search for it, and what is known of a place that was found. Assumes nothing.
 use mathlib.Core.Path.{_≡_, refl, sym, _∙_}
 use mathlib.Core.Bool.{Bool, true, false}
+use borrow.Author.Tests.{not-true, not-false}
 use Prim.Native.Nat.{ℕ, zero, suc, _+_, _-_, _≤_, _<_}
 use mathlib.Core.Logic.{⊎-elim}
 use native.Mathlib.Nat.{eq-or-lt-of-le}
@@ -24,6 +25,19 @@ module _ (used : ℕ → Bool) (i end : ℕ) where
   pub next : i < end → used i ≡ true → lowestFree used (i + 1) end ≡ lowestFree used i end
   unfolding lowest lowestFree pick
   next h u = let e : end - i ≡ suc (end - suc i) = omega arith in rw (e, u, add-one)
+
+-- a loop `if i >= end { break Nowhere; } if !used(i) { break At(i); } i += 1;` at i, where what is left of the search finds r: it ends at r
+module _ (used : ℕ → Bool) (i end : ℕ) {r : Place} (left : lowestFree used i end ≡ r) where
+  pub search-ends : end ≤ i → Nowhere ≡ r
+  search-ends h = past used i end h ∙ left
+
+  pub search-finds : i < end → used i ≡ false → At i ≡ r
+  search-finds h u = here used i end h u ∙ left
+
+  pub search-goes-on : i < end → used i ≡ true → lowestFree used (i + 1) end ≡ r
+  search-goes-on h u = next used i end h u ∙ left
+
+pub ruleset searching = (search-ends, search-finds, search-goes-on, not-true, not-false)
 
 -- k is the lowest place from i up and below `end` that is not used
 pub record Lowest (used : ℕ → Bool) (i end k : ℕ) : Type 0 where

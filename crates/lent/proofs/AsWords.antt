@@ -13,7 +13,7 @@ use Rattle.cap.specs.Word.{readWord, wordOf, isWord, orVacant, wordsRead, slots
 use Rattle.cap.specs.declared.slot.Slot.{Slot}
 use Rattle.cap.specs.declared.word.WordAnswer.the-variants.{Reads}
 use Rattle.cap.proofs.Words.{holding-back, vacant-back, reads-test}
-use Rattle.ipc.specs.Opening.{opened, openHold, holdOf}
+use Rattle.ipc.specs.Opening.{opened, holdOf}
 use Rattle.ipc.specs.Holds.{registered, registeredAll}
 use Rattle.ipc.specs.Border.{registerCall}
 use Rattle.ipc.specs.declared.state.Table.{Table}
@@ -57,7 +57,7 @@ back (x ∷ xs) h = λ i. orVacant (read-back x (h zero) i) ∷ back xs (λ k. h
 
 -- ---- the id of a vacant record is not read
 cleared-registered : (t : Table) (x : Slot) → registered t (cleared x) ≡ registered t x
-unfolding registered holdOf openHold opened pick
+unfolding registered holdOf opened pick
 cleared-registered t x = by (x .present)
   where
     by : (b : Bool) → registered t (cleared (record { present = b; id = x .id })) ≡ registered t (record { present = b; id = x .id })

@@ -3,12 +3,13 @@ ghost use mathlib.Core.Path.{_≡_};
 ghost use Rattle.ipc.specs.Sound.{Sound};
 ghost use Rattle.ipc.specs.Holds.{registered};
 ghost use Rattle.lent.specs.Holds.{Tested, begun, held, finished, registerSlots};
+use cap::CapRights;
 use cap::Slot;
 use ipc::answers::RegisterAnswer;
 use ipc::answers::Registering;
 use ipc::inner::raised;
 use ipc::opening::Opening;
-use ipc::opening::open_hold;
+use ipc::opening::open;
 use ipc::sound;
 use ipc::state::MAX_ENDPOINTS;
 use ipc::state::Table;
@@ -33,10 +34,13 @@ fn register(mut t: Table, slot: Slot) -> Table
     requires { ⌜ Sound t ⌝ }
     ensures { λ r. ⌜ r ≡ registered t slot ⌝ }
 {
+    if !slot.present {
+        return t;
+    }
     let id = slot.id;
     let i = id.index() as usize;
     let ep = t.endpoints[i % MAX_ENDPOINTS];
-    let Opening::Opens(k) = open_hold(i < t.sizes.endpoints, ep, slot) else {
+    let Opening::Opens(k) = open(i < t.sizes.endpoints, ep, id, CapRights::SEND) else {
         return t;
     };
     let mut b = t.mailboxes[k];

@@ -1,16 +1,26 @@
 -- A text put, or not: what the buffer holds and what is answered. Assumes nothing.
 use mathlib.Core.Path.{_≡_, refl, sym, ap, _∙_}
+use mathlib.Core.Bool.{Bool, true, false}
 use mathlib.Core.List.{List, [], _++_, append-assoc, append-nil}
 use Prim.Native.Nat.{ℕ, _+_, _-_, _<_, _≤_}
+use native.Mathlib.Nat.{zero-add}
 use native.Mathlib.Omega.{arith}
-use lib.ListN.{length, take, drop, length-append, length-drop, drop-of-length-le}
+use lib.ListN.{length, take, drop, length-append, length-drop, drop-of-length-le, take-append-drop}
 use lib.Seq.{take-all, take-length, length-take-le, drop-drop, take-at}
 use borrow.Author.Tests.{lt-leb, le-leb, leb-true, leb-false}
 use Rattle.laws.specs.Pick.{pick}
 use Rattle.laws.proofs.Cases.{all-pick}
-use Rattle.line.specs.Put.{fits, written, putOf}
+use Rattle.line.specs.Put.{fits, written, putOf, fromTail}
 use Rattle.line.specs.declared.Written.{Written}
 use Rattle.line.specs.declared.Written.the-variants.{Upto, NoRoom}
+
+-- a part to the end
+module _ (out : List ℕ) (at : ℕ) where
+  pub whole-tail : take (length out - at) (drop at out) ≡ drop at out
+  whole-tail = take-all (length out - at) (drop at out) (omega (arith, length-drop at out))
+
+  past-tail : drop (length out - at) (drop at out) ≡ []
+  past-tail = drop-of-length-le (drop at out) {i = length out - at} (omega (arith, length-drop at out))
 
 module _ (out : List ℕ) (at : ℕ) (text : List ℕ) where
   -- ---- a text that does not fit, and one that does
@@ -22,19 +32,6 @@ module _ (out : List ℕ) (at : ℕ) (text : List ℕ) where
       (Upto (at + length text) ≡ putOf out at text) × (take at out ++ (text ++ drop (at + length text) out) ≡ written out at text)
   unfolding written putOf pick
   has-room h = (rw (le-leb _ _ h) refl, rw (le-leb _ _ h) refl)
-
-  -- nothing of the buffer lies past the tail that was lent
-  past-tail : drop (length out - at) (drop at out) ≡ []
-  past-tail = drop-of-length-le (drop at out) {i = length out - at} (omega (arith, length-drop at out))
-
-  whole-tail : take (length out - at) (drop at out) ≡ drop at out
-  whole-tail = take-all (length out - at) (drop at out) (omega (arith, length-drop at out))
-
-  -- the tail that was lent, as the copy left it
-  pub copied : (tail : List ℕ) → at + length text ≤ length out →
-      tail ≡ take (length text) text ++ drop (length text) (take (length out - at) (drop at out)) →
-      (Upto (at + length text) ≡ putOf out at text) × (take at out ++ (tail ++ drop (length out - at) (drop at out)) ≡ written out at text)
-  copied tail h e = (has-room h .0, rw (past-tail, append-nil, e, whole-tail, take-length, drop-drop) (has-room h .1))
 
   -- ---- what the answer says of the buffer
   pub upto-fits : (n : ℕ) → putOf out at text ≡ Upto n → (n ≡ at + length text) × (n ≤ length out)
@@ -65,6 +62,42 @@ module _ (out : List ℕ) (at : ℕ) (text : List ℕ) where
       let h : at + length text ≤ length out = leb-true (at + length text) (length out) f in
       simp (length-append, length-drop) (omega (arith, length-take-le at out (omega arith))))
       (λ _. refl)
+
+-- a text copied to the start of a buffer
+pub copied : (out text : List ℕ) → length text ≤ length out →
+    (Upto (length text) ≡ putOf out 0 text) × (take (length text) text ++ drop (length text) out ≡ written out 0 text)
+copied out text h = let r = has-room out 0 text (omega arith) in rw take-length (simp zero-add at r)
+
+-- ---- the free tail of a buffer, lent to a writer
+module _ (out : List ℕ) (at : ℕ) (text : List ℕ) (h : at ≤ length out) where
+  abbrev Same : Type 0
+  Same = (fromTail at (putOf (drop at out) 0 text) ≡ putOf out at text) × (take at out ++ written (drop at out) 0 text ≡ written out at text)
+
+  by-room : (b : Bool) → fits out at text ≡ b → Same
+  unfolding fromTail
+  by-room true f =
+      let l = leb-true (at + length text) (length out) f in
+      let t = has-room (drop at out) 0 text (omega (arith, length-drop at out)) in
+      let w = has-room out at text l in
+      (rw (← t .0, zero-add) (w .0), rw (← t .1, zero-add, drop-drop) (w .1))
+  by-room false f =
+      let l = leb-false (at + length text) (length out) f in
+      let t = no-room (drop at out) 0 text (omega (arith, length-drop at out)) in
+      let w = no-room out at text l in
+      (rw (← t .0) (w .0), rw (← t .1, take-append-drop) (w .1))
+
+  -- a text put at the start of the tail is put from `at` on
+  pub tail-put : Same
+  tail-put = by-room (fits out at text) refl
+
+  -- the same as code has it: w is what the writer answered, left the tail then
+  pub lent : {w : Written} {left : List ℕ} → w ≡ putOf (take (length out - at) (drop at out)) 0 text → left ≡ written (take (length out - at) (drop at out)) 0 text →
+      (fromTail at w ≡ putOf out at text) × (take at out ++ (left ++ drop (length out - at) (drop at out)) ≡ written out at text)
+  lent ew el = rw (ew, el, whole-tail out at, past-tail out at, append-nil) tail-put
+
+  pub lent-within : {w : Written} → w ≡ putOf (take (length out - at) (drop at out)) 0 text → (n : ℕ) → w ≡ Upto n → at + n ≤ length out
+  unfolding fromTail
+  lent-within ew n e = upto-fits out at text (at + n) (sym (lent ew refl .0) ∙ ap (fromTail at) e) .1
 
 -- the text that was put stands in a buffer of its own
 pub from-buffer : (out left : List ℕ) (at : ℕ) (text part : List ℕ) (r : Written) → part ≡ text → r ≡ putOf out at part → left ≡ written out at part →

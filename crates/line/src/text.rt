@@ -1,6 +1,6 @@
 // A line's text, piece after piece, in a buffer with room for it. Each function answers the place past what it wrote.
 ghost use mathlib.Core.Path.{_≡_};
-ghost use mathlib.Core.List.{[], _∷_, _++_};
+ghost use mathlib.Core.List.{_∷_, _++_};
 ghost use Prim.Native.Nat.{_+_, _*_, _≤_};
 ghost use lib.ListN.{length, take};
 ghost use Rattle.line.specs.Line.{decimalIn, decimalOf, spacedOf, closedBy, textOf, lineOf, mostOf};

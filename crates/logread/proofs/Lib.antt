@@ -1,5 +1,5 @@
 pub mod Numbers
-pub mod Operands
+pub mod Few
 pub mod Records
 pub mod Past
 pub mod ListWords

@@ -1,3 +1,4 @@
 pub mod Read
 pub mod Little
 pub mod Lists
+pub mod Operands

@@ -1,4 +1,4 @@
--- Document 01, "The operation log": a list is four times presence byte and id; and what makes a flag or a list BadOperand (25).
+-- Document 01, "The operation log": a list is four times presence byte and id; and which flags and lists are well formed.
 use mathlib.Core.Bool.{Bool, not, _&&_, _||_}
 use mathlib.Core.List.{List, [], _∷_}
 use Prim.Native.Nat.{ℕ, _+_, _*_}

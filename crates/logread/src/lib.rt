@@ -6,9 +6,9 @@ use laws::refusals;
 mod lengths;
 mod lists;
 mod little;
+pub mod op;
+mod operands;
 
-pub use lists::flag_ok;
-pub use lists::list_ok;
 pub use lists::list_slot;
 pub use lists::list_slots;
 pub use lists::list_words;
@@ -19,15 +19,13 @@ pub use little::u64_at;
 
 const MARK: [u8; 2] = [75, 67];
 
-// The last operation.
-pub const LAST: u8 = 27;
-
-// What a log starts with. `len` counts the whole record, mark and operation included.
+// What a log starts with: a whole record, or its first fault. `len` counts the whole record, mark and operation included.
 pub enum Read {
     Whole { op: u8, len: usize },
     Short,
     BadMark,
     BadOp,
+    BadOperand,
 }
 
 impl Read {
@@ -39,6 +37,7 @@ impl Read {
             Read::Short => refusals::SHORT,
             Read::BadMark => refusals::BAD_MARK,
             Read::BadOp => refusals::BAD_OP,
+            Read::BadOperand => refusals::BAD_OPERAND,
         }
     }
 }
@@ -57,12 +56,15 @@ pub fn read_record(log: &[u8]) -> Read
         return Read::Short;
     }
     let op = log[2];
-    if op > LAST {
+    if op > op::LAST {
         return Read::BadOp;
     }
     let len = 3 + lengths::operand_length(op);
     if log.len() < len {
         return Read::Short;
+    }
+    if !operands::operands_ok(op, log) {
+        return Read::BadOperand;
     }
     Read::Whole { op, len }
 }

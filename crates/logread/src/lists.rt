@@ -1,4 +1,4 @@
-// Operands that can be ill formed (25): flags, and the list of four, each a presence byte and an id.
+// Operands that can be ill formed: flags, and the list of four, each a presence byte and an id.
 ghost use mathlib.Core.Path.{_≡_};
 ghost use Prim.Native.Nat.{_<_};
 ghost use lib.ListN.{length};

@@ -79,14 +79,14 @@ fn refused(answer: BindAnswer) -> Binding
 pub fn choose(want: Want, found: Slot, held: usize, pool: bool, slot: usize) -> Choice
     ensures { λ r. ⌜ r ≡ choiceFrom want found held pool slot ⌝ }
 {
-    let index = want.index;
-    let place = index as usize;
     if !want.present {
         return Choice::Takes(Slot {
             present: false,
             id: CapId { raw: 0 },
         });
     }
+    let index = want.index;
+    let place = index as usize;
     if place >= held {
         return Choice::Refuses(BindAnswer::NoSuchCapability { slot, index, held });
     }

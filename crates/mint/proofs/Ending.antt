@@ -8,14 +8,13 @@ use borrow.Author.Tests.{eq-eqb, ne-eqb}
 use lib.Dec.{eqb}
 use lib.ListN.{List·getD-map}
 use Rattle.laws.specs.Pick.{pick}
-use Rattle.laws.specs.declared.Place.{Place}
 use Rattle.laws.proofs.Cases.{all-pick}
 use Rattle.cap.specs.declared.CapId.{CapId}
 use Rattle.mint.specs.Entry.{noEntry, isOf, afterEnd}
 use Rattle.mint.specs.Entries.{entryAt, lookupIn, endedIn}
 use Rattle.mint.specs.declared.Entry.{Entry}
 use Rattle.mint.specs.declared.LookupAnswer.the-variants.{Names}
-use Rattle.mint.proofs.Named.{lookup-named, named-lookup}
+use Rattle.mint.proofs.Named.{lookup-named, named-on}
 
 -- each entry after the end is the one before, ended where it is the number's
 pub ended-at : (es : List Entry) (number i : ℕ) → entryAt (endedIn es number) i ≡ afterEnd number (entryAt es i)
@@ -50,11 +49,11 @@ pub end-spares : (number : ℕ) (e : Entry) → (e .number ≡ number → ⊥) �
 unfolding afterEnd
 end-spares number e d = spared (e .live) (eqb (e .number) number) _ _ (ne-eqb _ _ d)
 
-module _ (n : ℕ) (es : List Entry) (number : ℕ) (place : Place) (c : CapId) where
+module _ (n base : ℕ) (es : List Entry) (number : ℕ) (c : CapId) where
   -- no id names a number that has ended
-  pub ended-refused : lookupIn n (endedIn es number) place c ≡ Names number → ⊥
+  pub ended-refused : lookupIn n base (endedIn es number) c ≡ Names number → ⊥
   ended-refused e =
-      let r = lookup-named n (endedIn es number) place c number e in
+      let r = lookup-named n base (endedIn es number) c number e in
       let w = ended-at es number (r .at) in
       let s : entryAt es (r .at) .number ≡ number =
       sym (end-keeps number (entryAt es (r .at)) .1) ∙ (sym (ap (λ (y : Entry). y .number) w) ∙ r .entry .stored) in
@@ -62,15 +61,7 @@ module _ (n : ℕ) (es : List Entry) (number : ℕ) (place : Place) (c : CapId) 
       let z : _≡_ {A = ℕ} 0 1 = cc in omega arith
 
   -- an id that named another goes on naming it
-  pub ended-names-on : (x : ℕ) → (x ≡ number → ⊥) → lookupIn n es place c ≡ Names x → lookupIn n (endedIn es number) place c ≡ Names x
+  pub ended-names-on : (x : ℕ) → (x ≡ number → ⊥) → lookupIn n base es c ≡ Names x → lookupIn n base (endedIn es number) c ≡ Names x
   ended-names-on x d e =
-      let r = lookup-named n es place c x e in
-      let w : entryAt (endedIn es number) (r .at) ≡ entryAt es (r .at) =
-      ended-at es number (r .at) ∙ end-spares number (entryAt es (r .at)) (λ q. d (sym (r .entry .stored) ∙ q)) in
-      named-lookup n (endedIn es number) place c x
-      (record {
-        at = r .at;
-        there = r .there;
-        below = r .below;
-        entry = record { live = rw w (r .entry .live); same = rw w (r .entry .same); stored = rw w (r .entry .stored) };
-      })
+      let r = lookup-named n base es c x e in
+      named-on _ r (ended-at es number (r .at) ∙ end-spares number (entryAt es (r .at)) (λ q. d (sym (r .entry .stored) ∙ q)))

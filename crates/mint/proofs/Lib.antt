@@ -1,5 +1,6 @@
 pub mod Generations
 pub mod Lookups
 pub mod Named
+pub mod Bands
 pub mod Mints
 pub mod Ending

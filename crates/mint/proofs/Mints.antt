@@ -3,27 +3,29 @@
 use mathlib.Core.Path.{_≡_, refl, sym, ap, _∙_}
 use mathlib.Core.Bool.{Bool, true, false}
 use mathlib.Core.List.{List}
+use mathlib.Core.Logic.{⊎-elim}
 use Prim.Native.Nat.{ℕ, _+_, _-_, _≤_, _<_}
 use native.Mathlib.Omega.{arith}
 use lib.ListN.{length, set}
 use lib.Seq.{getD-set-same, getD-set-other}
-use Rattle.laws.specs.Place.{lowest, lowestFree}
+use Rattle.laws.specs.Place.{found, lowest, lowestFree}
 use Rattle.laws.specs.declared.Place.{Place}
-use Rattle.laws.specs.declared.Place.the-variants.{At}
+use Rattle.laws.specs.declared.Place.the-variants.{At, Nowhere}
 use Rattle.laws.proofs.Cases.{all-found}
 use Rattle.laws.proofs.Search.{Lowest, lowest-at, none-free}
-use Rattle.cap.specs.Id.{idOf, generationOf}
+use Rattle.cap.specs.Id.{idOf, classOf, generationOf}
 use Rattle.cap.specs.declared.CapId.{CapId}
 use Rattle.cap.proofs.Ids.{generation-of-id}
 use Rattle.mint.specs.Generation.{nextGeneration}
 use Rattle.mint.specs.Entry.{noEntry, mintedEntry}
-use Rattle.mint.specs.Entries.{entryAt, isLive, freeEntry, mintWith, lookupIn}
+use Rattle.mint.specs.Entries.{entryAt, isLive, freeEntry, mintWith, entryOf, lookupIn}
 use Rattle.mint.specs.declared.Entry.{Entry}
 use Rattle.mint.specs.declared.MintAnswer.{MintAnswer}
 use Rattle.mint.specs.declared.MintAnswer.the-variants.{Minted, NoFreeEntry}
 use Rattle.mint.specs.declared.LookupAnswer.the-variants.{Names}
 use Rattle.mint.proofs.Generations.{next-differs}
-use Rattle.mint.proofs.Named.{lookup-named, named-lookup}
+use Rattle.mint.proofs.Named.{lookup-named, named-lookup, named-on}
+use Rattle.mint.proofs.Bands.{Band, entry-of-id}
 
 -- a refused mint: every entry is live, and the entries stay
 pub record Refused (n : ℕ) (es after : List Entry) : Type 0 where
@@ -53,6 +55,18 @@ mint-tells n base es number k P h =
     (λ e. h NoFreeEntry es (record { full = λ i l. none-free (isLive es) 0 n e i (omega arith) l; unchanged = refl }))
     (λ i e. h (Minted _) _ (record { at = i; place = lowest-at (isLive es) 0 n i e; answer = refl; entries = refl }))
 
+-- what a mint returns that looked for a free entry and found q
+module _ {A : Type 0} {r : A} (n base : ℕ) (es : List Entry) (number : ℕ) (k : MintAnswer → List Entry → A) {q : Place} (is : q ≡ freeEntry n es) where
+  pub none-minted : q ≡ Nowhere → r ≡ k NoFreeEntry es → r ≡ mintWith n base es number k
+  unfolding mintWith found
+  none-minted e h = h ∙ rw (← is, e)
+
+  pub one-minted :
+      {i : ℕ} {e : Entry} {c : CapId} → q ≡ At i → e ≡ mintedEntry (entryAt es i) number → c ≡ idOf (base + i) (e .generation) →
+      r ≡ k (Minted c) (set es i e) → r ≡ mintWith n base es number k
+  unfolding mintWith found
+  one-minted a m d h = h ∙ rw (← is, a, d, m)
+
 module _ {n base number : ℕ} {es after : List Entry} {c : CapId} (m : Accepted n base es number c after) where
   -- the other entries are left as they were
   pub others-left : (j : ℕ) → (j ≡ m .at → ⊥) → entryAt after j ≡ entryAt es j
@@ -64,46 +78,45 @@ module _ {n base number : ℕ} {es after : List Entry} {c : CapId} (m : Accepted
       let z : _≡_ {A = Bool} true false = sym l ∙ f in
       let y : _≡_ {A = ℕ} 0 1 = cc in omega arith
 
-  -- the id that was answered named nothing before
-  pub minted-was-unnamed : (x : ℕ) → lookupIn n es (At (m .at)) c ≡ Names x → ⊥
-  minted-was-unnamed x e =
-      let r = lookup-named n es (At (m .at)) c x e in
-      busy (r .entry .live) (let q : m .at ≡ r .at = cc in sym q)
+  -- an id that named a number goes on naming it
+  pub names-on : (d : CapId) (x : ℕ) → lookupIn n base es d ≡ Names x → lookupIn n base after d ≡ Names x
+  names-on d x e = let r = lookup-named n base es d x e in named-on _ r (others-left (r .at) (busy (r .entry .live)))
+
+  module _ (band : Band base) (small : n ≤ 16384) where
+    minted-entry-of : entryOf base (classOf c) ≡ At (m .at)
+    minted-entry-of = let l = m .place .below in rw (m .answer) (entry-of-id (m .at) _ (omega arith) band)
+
+    -- the id that was answered named nothing before
+    pub minted-was-unnamed : (x : ℕ) → lookupIn n base es c ≡ Names x → ⊥
+    minted-was-unnamed x e =
+        let r = lookup-named n base es c x e in
+        let a = minted-entry-of in
+        busy (r .entry .live) (let q : m .at ≡ r .at = cc in sym q)
 
   module _ (sized : length es ≡ n) where
     pub minted-entry : entryAt after (m .at) ≡ mintedEntry (entryAt es (m .at)) number
     minted-entry = let l = m .place .below in rw (m .entries) (getD-set-same es (m .at) _ noEntry (omega arith))
 
     -- the id that was answered names the number that was stored
-    pub minted-names : base + n ≤ 65536 → lookupIn n after (At (m .at)) c ≡ Names number
-    minted-names h =
+    pub minted-names : Band base → n ≤ 16384 → lookupIn n base after c ≡ Names number
+    minted-names band h =
         let l = m .place .below in
-        let g : generationOf c ≡ nextGeneration (entryAt es (m .at) .generation) = rw (m .answer) (generation-of-id _ _ (omega arith)) in
-        named-lookup n after (At (m .at)) c number
+        let g : generationOf c ≡ nextGeneration (entryAt es (m .at) .generation) =
+        rw (m .answer) (generation-of-id _ _ (⊎-elim (λ e. omega arith) (λ e. omega arith) band)) in
+        named-lookup n base after c number
         (record {
           at = m .at;
-          there = refl;
+          there = minted-entry-of band h;
           below = l;
           entry = record { live = rw minted-entry; same = rw (minted-entry, g); stored = rw minted-entry };
         })
 
     -- an id of the entry's last life names nothing any more
-    pub stale-refused : (d : CapId) (x : ℕ) → generationOf d ≡ entryAt es (m .at) .generation → lookupIn n after (At (m .at)) d ≡ Names x → ⊥
-    stale-refused d x g e =
-        let r = lookup-named n after (At (m .at)) d x e in
+    pub stale-refused :
+        (d : CapId) (x : ℕ) → entryOf base (classOf d) ≡ At (m .at) → generationOf d ≡ entryAt es (m .at) .generation →
+        lookupIn n base after d ≡ Names x → ⊥
+    stale-refused d x a g e =
+        let r = lookup-named n base after d x e in
         let q : m .at ≡ r .at = cc in
         next-differs (entryAt es (m .at) .generation)
         (sym (ap (λ (y : Entry). y .generation) minted-entry) ∙ (rw q (r .entry .same) ∙ g))
-
-    -- an id that named a number goes on naming it
-    pub names-on : (place : Place) (d : CapId) (x : ℕ) → lookupIn n es place d ≡ Names x → lookupIn n after place d ≡ Names x
-    names-on place d x e =
-        let r = lookup-named n es place d x e in
-        let w : entryAt after (r .at) ≡ entryAt es (r .at) = others-left (r .at) (busy (r .entry .live)) in
-        named-lookup n after place d x
-        (record {
-          at = r .at;
-          there = r .there;
-          below = r .below;
-          entry = record { live = rw w (r .entry .live); same = rw w (r .entry .same); stored = rw w (r .entry .stored) };
-        })

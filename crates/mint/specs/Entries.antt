@@ -3,13 +3,16 @@ use mathlib.Core.Bool.{Bool}
 use mathlib.Core.List.{List, map}
 use Prim.Native.Nat.{ℕ, _+_}
 use lib.ListN.{getD, set}
-use lib.Dec.{ltb}
+use lib.Dec.{eqb, ltb}
 use Rattle.laws.specs.Pick.{pick}
 use Rattle.laws.specs.Place.{found, lowestFree}
 use Rattle.laws.specs.Every.{count}
 use Rattle.laws.specs.declared.Place.{Place}
-use Rattle.cap.specs.Id.{idOf, generationOf}
+use Rattle.laws.specs.declared.Place.the-variants.{At, Nowhere}
+use Rattle.cap.specs.Id.{idOf, generationOf, classOf}
 use Rattle.cap.specs.declared.CapId.{CapId}
+use Rattle.cap.specs.declared.CapClass.{CapClass}
+use Rattle.cap.specs.declared.CapClass.the-variants.{Endpoint, Task, Irq, Invalid}
 use Rattle.mint.specs.Generation.{nextGeneration}
 use Rattle.mint.specs.Entry.{noEntry, mintedEntry, namesOf, isOf, afterEnd}
 use Rattle.mint.specs.declared.Entry.{Entry}
@@ -36,10 +39,17 @@ mintWith n base es number k =
     found (freeEntry n es) (k NoFreeEntry es)
     (λ i. k (Minted (idOf (base + i) (nextGeneration (entryAt es i .generation)))) (set es i (mintedEntry (entryAt es i) number)))
 
--- a lookup at the place that an id's class gives: right class, entry in range, live, same generation
-unfoldable pub lookupIn : ℕ → List Entry → Place → CapId → LookupAnswer
-lookupIn n es place c =
-    found place BadCap (λ i.
+-- the entry that an id of a class names in the table whose ids begin at `base`: 16,384 for tasks, 32,768 for IRQ
+unfoldable pub entryOf : ℕ → CapClass → Place
+entryOf base (Endpoint p) = Nowhere
+entryOf base (Task p) = pick (eqb base 16384) (At p) Nowhere
+entryOf base (Irq p) = pick (eqb base 32768) (At p) Nowhere
+entryOf base Invalid = Nowhere
+
+-- a lookup: right class, entry in range, live, same generation
+unfoldable pub lookupIn : ℕ → ℕ → List Entry → CapId → LookupAnswer
+lookupIn n base es c =
+    found (entryOf base (classOf c)) BadCap (λ i.
     pick (ltb i n) (namesOf (entryAt es i) (generationOf c))
     BadCap)
 

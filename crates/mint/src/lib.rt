@@ -13,6 +13,15 @@ pub struct Entry {
     pub number: u32,
 }
 
+impl Entry {
+    // An entry that was never minted.
+    pub const EMPTY: Entry = Entry {
+        live: false,
+        generation: 0,
+        number: 0,
+    };
+}
+
 pub enum MintAnswer {
     Minted(CapId),
     NoFreeEntry,

@@ -19,7 +19,7 @@ use Rattle.operations.specs.Channels.{allFresh, freshBy, newDone}
 use Rattle.operations.specs.declared.values.Values.{Values}
 use Rattle.operations.specs.declared.Outcome.{Outcome}
 use Rattle.operations.specs.declared.Tables.{Tables}
-use Rattle.operations.specs.declared.channels.Fresh.{Fresh}
+use Rattle.operations.specs.declared.fresh.Fresh.{Fresh}
 
 not-both-answers : _≡_ {A = NewAnswer} Made BadSizes → ⊥
 not-both-answers e = let z : _≡_ {A = ℕ} 0 20 = ap newNumber e in omega arith

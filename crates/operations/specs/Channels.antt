@@ -31,7 +31,7 @@ use Rattle.logread.specs.Little.{byteAt}
 use Rattle.operations.specs.Done.{Done, withChannels}
 use Rattle.operations.specs.Operands.{idAt, taskAt, messageAt}
 use Rattle.operations.specs.declared.Tables.{Tables}
-use Rattle.operations.specs.declared.channels.Fresh.{Fresh}
+use Rattle.operations.specs.declared.fresh.Fresh.{Fresh}
 
 -- ---- what a call's answer and table come to
 abbrev pub created : Tables → Creation → Done

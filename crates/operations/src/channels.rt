@@ -1,14 +1,14 @@
 // Operations 0, 1, 6 and 10: channels made and revoked, and a task that waits no more.
 ghost use mathlib.Core.Path.{_≡_};
-ghost use Rattle.ipc.specs.Make.{newOf};
 ghost use Rattle.ipc.specs.Sound.{Sound};
 ghost use Rattle.ipc.specs.Answers.{createValues, revokeValues, clearValues};
 ghost use Rattle.ipc.specs.declared.answers.CreateAnswer.the-variants.{Created};
 ghost use Rattle.operations.specs.Values.{held};
 ghost use Rattle.operations.specs.Done.{packed};
-ghost use Rattle.operations.specs.Channels.{createDone, revokeDone, clearDone, newDone, freshBy};
+ghost use Rattle.operations.specs.Channels.{createDone, revokeDone, clearDone, newDone};
 use crate::Outcome;
 use crate::Tables;
+use crate::fresh::all_fresh;
 use crate::values;
 use crate::values::Values;
 use crate::values::waiter_values;
@@ -58,31 +58,6 @@ fn clear_values(a: ClearAnswer) -> Values
     match a {
         ClearAnswer::Cleared(n) => values::one(n as u64),
         ClearAnswer::BadTable => values::none(),
-    }
-}
-
-// Tables that nothing happened to, and whether the channel table has the sizes asked for.
-pub struct Fresh {
-    pub answer: NewAnswer,
-    pub tables: Tables,
-}
-
-// What operation 0 makes, and where a replay starts. The sizes come as a struct for the optimiser's sake: it sees no constants there and
-// leaves this a call. Inlined, it has every copy of the tables in its callers made field by field, and a replay takes 2.5 times as long.
-pub fn all_fresh(sizes: Sizes) -> Fresh
-    ensures { λ r. ⌜ r ≡ freshBy (newOf (sizes .mailboxes) (sizes .endpoints) (sizes .depth)) ⌝ }
-{
-    let made = ipc::new(sizes.mailboxes, sizes.endpoints, sizes.depth);
-    let answer = made.answer;
-    let channels = made.table;
-    Fresh {
-        answer,
-        tables: Tables {
-            channels,
-            rows: capslots::new(),
-            tasks: taskcap::new(),
-            irqs: irqcap::new(),
-        },
     }
 }
 

@@ -75,6 +75,7 @@ pub fn op_holders(t: Tables, log: &[u8]) -> Outcome
 
 // 11.
 pub fn op_note_authority(mut t: Tables) -> Outcome
+    requires { ⌜ Sound (t .channels) ⌝ }
     ensures { λ r. ⌜ r ≡ packed (noteAuthorityDone t) ⌝ }
 {
     let noted = ipc::inner::note_authority_refusal(t.channels);
@@ -93,6 +94,7 @@ pub fn op_note_authority(mut t: Tables) -> Outcome
 
 // 12.
 pub fn op_note_state(mut t: Tables) -> Outcome
+    requires { ⌜ Sound (t .channels) ⌝ }
     ensures { λ r. ⌜ r ≡ packed (noteStateDone t) ⌝ }
 {
     let noted = ipc::inner::note_state_refusal(t.channels);

@@ -23,7 +23,7 @@ use Rattle.operations.specs.declared.Tables.{Tables}
 use Rattle.oplog.specs.Step.{stepNumber, writing, stepOf, stepOut}
 use Rattle.oplog.specs.Run.{Ended, runFrom, runOf}
 use Rattle.oplog.specs.Text.{most, textFrom, textAt, startOf, replayText}
-use Rattle.oplog.specs.Replay.{reachable, Filled, filled, lastLine, lastOf, placeOf, endingOf, ranOf, replayOf, Placed, partOf, Prints, last, next}
+use Rattle.oplog.specs.Replay.{placeFits, Filled, filled, lastLine, lastOf, placeOf, endingOf, ranOf, replayOf, Placed, partOf, Prints, last, next}
 use Rattle.oplog.specs.declared.StepAnswer.the-variants.{Took, NoRoom}
 use Rattle.oplog.specs.declared.replay.Place.{Place}
 use Rattle.oplog.proofs.Runs.{used, step-kept}
@@ -92,7 +92,7 @@ module _ (out : List ℕ) (at number offset : ℕ) (p : Place) (w : at ≤ lengt
   unfolding lastOf
   last-inside = written-inside (putOf out at line) refl
 
-ran-inside : (log out : List ℕ) (before : ℕ) (t : Tables) → runOf log before out t .answer .at ≤ length (runOf log before out t .buffer)
+pub ran-inside : (log out : List ℕ) (before : ℕ) (t : Tables) → runOf log before out t .answer .at ≤ length (runOf log before out t .buffer)
 ran-inside log out before t =
     let z : length log - length log ≡ 0 = omega arith in
     run-prints log 0 (length log) log before out 0 t (omega arith) (omega arith) (rw z refl) (omega arith) .within
@@ -100,7 +100,7 @@ ran-inside log out before t =
 pub part-inside : (log out : List ℕ) (p : Place) → replayOf log out p .part .at ≤ length (replayOf log out p .buffer)
 unfolding replayOf endingOf
 part-inside log out p =
-    all-pick Inside (reachable log p) _ _ (λ _.
+    all-pick Inside (placeFits log p) _ _ (λ _.
     all-pick Inside (ltb most (length log)) _ _ (λ _. last-inside out 0 no.tooLong most p (omega arith)) (λ _.
     all-pick Inside (eqb (stepNumber (ranOf log out p .answer .answer)) no.noRoom) _ _ (λ _. ran-inside (drop (p .offset) log) out (p .done) (p .tables)) (λ _.
     last-inside (ranOf log out p .buffer) (ranOf log out p .answer .at) _ _ _ (ran-inside (drop (p .offset) log) out (p .done) (p .tables)))))
@@ -114,8 +114,8 @@ module _ (log : List ℕ) (p : Place) (h : Placed log p) (out : List ℕ) where
     pub left : f .part .answer ≡ NoRoom → partOf f ++ textAt log (f .part .place) ≡ textAt log p
     pub again : Placed log (f .part .place)
 
-  reached : reachable log p ≡ true
-  reached = rw (le-leb (p .offset) (length log) (h .inside), le-leb (p .done) (p .offset) (h .counted), test-of (p .tables .channels) (h .sound)) refl
+  pub fits : placeFits log p ≡ true
+  fits = rw (le-leb (p .offset) (length log) (h .inside), le-leb (p .done) (p .offset) (h .counted), test-of (p .tables .channels) (h .sound)) refl
 
   -- too long a log
   long-text : (q : Place) → most < length log → textAt log q ≡ lastLine no.tooLong most (p .done)
@@ -199,9 +199,9 @@ module _ (log : List ℕ) (p : Place) (h : Placed log p) (out : List ℕ) where
   pub continues : Continues (replayOf log out p)
   unfolding replayOf
   continues =
-      all-pick Continues (reachable log p) _ _ (λ _.
+      all-pick Continues (placeFits log p) _ _ (λ _.
       all-pick Continues (ltb most (length log)) _ _ (λ a. long (ltb-true _ _ a)) (λ a. short (ltb-false _ _ a)))
-      (λ f. absurd (not-both _ reached f))
+      (λ f. absurd (not-both _ fits f))
 
 -- ---- a whole replay
 pub printed : (log : List ℕ) {p : Place} {text : List ℕ} → Placed log p → Prints log p text → text ≡ textAt log p

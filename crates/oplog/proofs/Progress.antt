@@ -7,7 +7,6 @@ use native.Mathlib.Omega.{arith}
 use lib.Dec.{ltb, eqb}
 use lib.ListN.{length, drop, length-drop}
 use borrow.Author.Tests.{eqb-true}
-use Rattle.laws.specs.Pick.{pick}
 use Rattle.laws.specs.Refusals as no
 use Rattle.laws.proofs.Cases.{all-pick}
 use Rattle.line.specs.Put.{written, putOf, writtenNumber}
@@ -20,10 +19,10 @@ use Rattle.operations.specs.declared.Tables.{Tables}
 use Rattle.operations.proofs.Applied.{apply-few}
 use Rattle.logread.specs.Read.{readOf}
 use Rattle.logread.specs.declared.Read as read
-use Rattle.oplog.specs.Step.{stepNumber, operandsOk, reading, writing, textOf, refusedStep, stepOf, stepOut}
+use Rattle.oplog.specs.Step.{stepNumber, reading, writing, textOf, refusedStep, stepOf, stepOut}
 use Rattle.oplog.specs.Run.{Ended, runFrom}
 use Rattle.oplog.specs.Text.{most}
-use Rattle.oplog.specs.Replay.{reachable, Filled, filled, lastLine, lastOf, placeOf, endingOf, ranOf, replayOf}
+use Rattle.oplog.specs.Replay.{placeFits, Filled, filled, lastLine, lastOf, placeOf, endingOf, ranOf, replayOf}
 use Rattle.oplog.specs.declared.StepAnswer.the-variants.{Took, Short, BadMark, BadOp, BadOperand, NoRoom}
 use Rattle.oplog.specs.declared.Stepped.{Stepped}
 use Rattle.oplog.specs.declared.replay.Place.{Place}
@@ -69,12 +68,13 @@ module _ (log out : List ℕ) (number at : ℕ) (t : Tables) (h : at + 315 ≤ l
     text-written (Upto n) e z = omega arith
     text-written Crowded e z = fits-written out at text text-fits e
 
-  by-record : (q : read.Read) → Has (reading q (refusedStep at t) (λ op len. pick (operandsOk op log) (writing (putOf out at (text op len)) (refusedStep at t NoRoom) (λ next. record { answer = Took; used = len; at = next; tables = applyOf op log t .tables })) (refusedStep at t BadOperand)))
+  by-record : (q : read.Read) → Has (reading q (refusedStep at t) (λ op len. writing (putOf out at (text op len)) (refusedStep at t NoRoom) (λ next. record { answer = Took; used = len; at = next; tables = applyOf op log t .tables })))
   unfolding reading
   by-record read.the-variants.Short z = omega arith
   by-record read.the-variants.BadMark z = omega arith
   by-record read.the-variants.BadOp z = omega arith
-  by-record (read.the-variants.Whole op len) z = all-pick Has (operandsOk op log) _ _ (λ _. text-written op len (putOf out at (text op len)) refl) (λ _ y. omega arith) z
+  by-record read.the-variants.BadOperand z = omega arith
+  by-record (read.the-variants.Whole op len) z = text-written op len (putOf out at (text op len)) refl z
 
   step-room : stepNumber (stepOf log number out at t .answer) ≡ no.noRoom → ⊥
   unfolding stepOf
@@ -82,12 +82,13 @@ module _ (log out : List ℕ) (number at : ℕ) (t : Tables) (h : at + 315 ≤ l
 
 -- ---- a step leaves the buffer's length
 module _ (log out : List ℕ) (number at : ℕ) (t : Tables) where
-  by-record-length : (q : read.Read) → length (reading q (λ _. out) (λ op len. pick (operandsOk op log) (written out at (textOf number op (applyOf op log t))) out)) ≡ length out
+  by-record-length : (q : read.Read) → length (reading q (λ _. out) (λ op len. written out at (textOf number op (applyOf op log t)))) ≡ length out
   unfolding reading
   by-record-length read.the-variants.Short = refl
   by-record-length read.the-variants.BadMark = refl
   by-record-length read.the-variants.BadOp = refl
-  by-record-length (read.the-variants.Whole op len) = all-pick (λ (l : List ℕ). length l ≡ length out) (operandsOk op log) _ _ (λ _. written-length out at (textOf number op (applyOf op log t))) (λ _. refl)
+  by-record-length read.the-variants.BadOperand = refl
+  by-record-length (read.the-variants.Whole op len) = written-length out at (textOf number op (applyOf op log t))
 
   step-length : length (stepOut log number out at t) ≡ length out
   unfolding stepOut
@@ -147,7 +148,7 @@ module _ (log out : List ℕ) (p : Place) (h : 315 ≤ length out) where
   pub moves-on : Onward (replayOf log out p)
   unfolding replayOf endingOf
   moves-on =
-      all-pick Onward (reachable log p) _ _ (λ _.
+      all-pick Onward (placeFits log p) _ _ (λ _.
       all-pick Onward (ltb most (length log)) _ _ (λ _ z. absurd (last-room out 0 no.tooLong most p (omega arith) z)) (λ _.
       all-pick Onward (eqb (stepNumber (e .answer .answer)) no.noRoom) _ _ (λ n _. let c = forward .crowded (eqb-true _ _ n) in omega arith) (λ _. closes-on (e .answer .offset) refl)))
       (λ _ z. absurd (let y : _≡_ {A = ℕ} 27 26 = ap stepNumber z in omega arith))

@@ -1,7 +1,7 @@
 -- The ways of a replay over a lent buffer: a place that is refused, a log that is too long, no room, the last line. Assumes nothing.
 use mathlib.Core.Path.{_≡_, refl}
 use mathlib.Core.Bool.{Bool, true, false, _&&_, not}
-use mathlib.Core.List.{List}
+use mathlib.Core.List.{List, _++_}
 use Prim.Native.Nat.{ℕ, zero, suc, _+_, _-_, _<_, _≤_}
 use native.Mathlib.Omega.{arith}
 use lib.Dec.{leb}
@@ -13,19 +13,19 @@ use Rattle.laws.proofs.Cases.{all-pick}
 use Rattle.laws.proofs.Every.{and-left, and-right}
 use Rattle.ipc.specs.SoundTest.{soundTest}
 use Rattle.line.specs.Line.{endOf, badOf}
-use Rattle.line.specs.Put.{written, putOf}
+use Rattle.line.specs.Put.{written, putOf, fromTail}
 use Rattle.line.specs.declared.Written.{Written}
 use Rattle.line.specs.declared.Written.the-variants.{Upto, NoRoom as Crowded}
+use Rattle.line.proofs.Room.{whole-tail, lent}
 use Rattle.operations.specs.declared.Tables.{Tables}
 use Rattle.oplog.specs.Step.{stepNumber, writing}
 use Rattle.oplog.specs.Run.{Ended, runFrom, runOf}
 use Rattle.oplog.specs.Text.{most}
-use Rattle.oplog.specs.Replay.{reachable, lastLine, lastOf, placeOf, endingOf, ranOf, replayOf}
+use Rattle.oplog.specs.Replay.{placeFits, lastLine, lastOf, placeOf, endingOf, ranOf, replayOf}
 use Rattle.oplog.specs.declared.StepAnswer.the-variants.{Took, NoRoom, BadTable}
 use Rattle.oplog.specs.declared.Ran.{Ran}
 use Rattle.oplog.specs.declared.replay.Place.{Place}
 use Rattle.oplog.specs.declared.replay.Part.{Part}
-use Rattle.oplog.proofs.Runs.{whole-tail}
 
 -- ---- the last line
 module _ (number offset done : ℕ) where
@@ -37,16 +37,23 @@ module _ (number offset done : ℕ) where
   unfolding lastLine pick
   is-bad e = rw (ne-eqb number 0 e) refl
 
--- w is what writing it answered, left the buffer then
-module _ (out : List ℕ) (at number offset : ℕ) (p : Place) (w : Written) (left : List ℕ) (ew : w ≡ putOf out at (lastLine number offset (p .done)))
-    (el : left ≡ written out at (lastLine number offset (p .done))) where
-  pub had-room : (next : ℕ) → w ≡ Upto next → (_≡_ {A = Part} (record { answer = Took; at = next; place = p }) (lastOf out at number offset p .part)) × (left ≡ lastOf out at number offset p .buffer)
-  unfolding lastOf writing
-  had-room next e = (rw (← ew, e) refl, rw (← ew, e) el)
+-- the tail from `at` on was lent: w is what writing that line answered, left the tail then
+module _ (out : List ℕ) (at number offset : ℕ) (p : Place) (h : at ≤ length out) (w : Written) (left : List ℕ)
+    (ew : w ≡ putOf (take (length out - at) (drop at out)) 0 (lastLine number offset (p .done)))
+    (el : left ≡ written (take (length out - at) (drop at out)) 0 (lastLine number offset (p .done))) where
+  abbrev whole : List ℕ
+  whole = take at out ++ (left ++ drop (length out - at) (drop at out))
 
-  pub crowded : w ≡ Crowded → (_≡_ {A = Part} (record { answer = NoRoom; at = at; place = p }) (lastOf out at number offset p .part)) × (left ≡ lastOf out at number offset p .buffer)
-  unfolding lastOf writing
-  crowded e = (rw (← ew, e) refl, rw (← ew, e) el)
+  back : (fromTail at w ≡ putOf out at (lastLine number offset (p .done))) × (whole ≡ written out at (lastLine number offset (p .done)))
+  back = lent out at (lastLine number offset (p .done)) h ew el
+
+  pub had-room : (n : ℕ) → w ≡ Upto n → (_≡_ {A = Part} (record { answer = Took; at = at + n; place = p }) (lastOf out at number offset p .part)) × (whole ≡ lastOf out at number offset p .buffer)
+  unfolding lastOf writing fromTail
+  had-room n e = (rw (← back .0, e) refl, rw (← back .0, e) (back .1))
+
+  pub crowded : w ≡ Crowded → (_≡_ {A = Part} (record { answer = NoRoom; at = at; place = p }) (lastOf out at number offset p .part)) × (whole ≡ lastOf out at number offset p .buffer)
+  unfolding lastOf writing fromTail
+  crowded e = (rw (← back .0, e) refl, rw (← back .0, e) (back .1))
 
 -- ---- a run ends inside its log
 run-within : (all k : ℕ) (rest : List ℕ) (done : ℕ) (out : List ℕ) (at : ℕ) (t : Tables) → runFrom all k rest done out at t .answer .offset ≤ all
@@ -60,7 +67,7 @@ run-within all (suc k) rest done out at t =
 pub ran-within : (log : List ℕ) (before : ℕ) (out : List ℕ) (t : Tables) {r : Ran} → r ≡ runOf log before out t .answer → r .offset ≤ length log
 ran-within log before out t e = rw e (run-within (length log) (length log) log before out 0 t)
 
--- ---- the calls: q is what the soundness test answered, and the code asks whether the place can not be reached
+-- ---- the calls: q is what the soundness test answered, and the code asks whether the place does not fit
 module _ (log out : List ℕ) (p : Place) (q : Bool) (es : q ≡ soundTest (p .tables .channels)) where
   abbrev placed : Bool
   placed = leb (p .offset) (length log) && leb (p .done) (p .offset)
@@ -70,11 +77,11 @@ module _ (log out : List ℕ) (p : Place) (q : Bool) (es : q ≡ soundTest (p .t
 
   pub refuses : not tested ≡ true → (_≡_ {A = Part} (record { answer = BadTable; at = 0; place = p }) (replayOf log out p .part)) × (out ≡ replayOf log out p .buffer)
   unfolding replayOf pick
-  refuses e = let h : reachable log p ≡ false = rw (← es) (not-true tested e) in (rw h refl, rw h refl)
+  refuses e = let h : placeFits log p ≡ false = rw (← es) (not-true tested e) in (rw h refl, rw h refl)
 
   module _ (e : not tested ≡ false) where
-    reaches : reachable log p ≡ true
-    reaches = rw (← es) (not-false tested e)
+    fits : placeFits log p ≡ true
+    fits = rw (← es) (not-false tested e)
 
     pub inside : p .offset ≤ length log
     inside = leb-true _ _ (and-left _ (leb (p .done) (p .offset)) (and-left placed q (not-false tested e)))
@@ -88,7 +95,7 @@ module _ (log out : List ℕ) (p : Place) (q : Bool) (es : q ≡ soundTest (p .t
     pub too-long : {r : Part} {left : List ℕ} → most < length log → r ≡ lastOf out 0 no.tooLong most p .part → left ≡ lastOf out 0 no.tooLong most p .buffer
         → (r ≡ replayOf log out p .part) × (left ≡ replayOf log out p .buffer)
     unfolding replayOf pick
-    too-long l er el = (rw (reaches, lt-ltb most (length log) l) er, rw (reaches, lt-ltb most (length log) l) el)
+    too-long l er el = (rw (fits, lt-ltb most (length log) l) er, rw (fits, lt-ltb most (length log) l) el)
 
     -- r is how the run over the rest of the log ended, left the buffer then
     module _ (l : length log ≤ most) (r : Ran) (left : List ℕ) (er : r ≡ runOf (take (length log - p .offset) (drop (p .offset) log)) (p .done) out (p .tables) .answer)
@@ -98,7 +105,7 @@ module _ (log out : List ℕ) (p : Place) (q : Bool) (es : q ≡ soundTest (p .t
 
       ending : endingOf (p .offset) (ranOf log out p) ≡ replayOf log out p
       unfolding replayOf pick
-      ending = rw (reaches, le-ltb most (length log) l) refl
+      ending = rw (fits, le-ltb most (length log) l) refl
 
       pub no-room : stepNumber (r .answer) ≡ no.noRoom
           → (_≡_ {A = Part} (record { answer = NoRoom; at = r .at; place = placeOf (p .offset) r }) (replayOf log out p .part)) × (left ≡ replayOf log out p .buffer)

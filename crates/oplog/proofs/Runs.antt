@@ -4,12 +4,11 @@ use mathlib.Core.List.{List}
 use Prim.Native.Nat.{ℕ, zero, suc, _+_, _-_, _<_, _≤_}
 use native.Mathlib.Omega.{arith}
 use lib.ListN.{length, take, drop, length-drop}
-use lib.Seq.{take-all}
 use borrow.Author.Tests.{lt-ltb, le-ltb, eq-eqb, ne-eqb}
 use Rattle.laws.specs.Pick.{pick}
-use Rattle.laws.proofs.Cases.{all-pick}
 use Rattle.line.specs.declared.Written.{Written}
 use Rattle.line.specs.declared.Written.the-variants.{Upto, NoRoom as Crowded}
+use Rattle.line.proofs.Room.{whole-tail}
 use Rattle.logread.specs.Read.{readOf}
 use Rattle.logread.specs.declared.Read as read
 use Rattle.logread.proofs.Records.{whole}
@@ -19,24 +18,22 @@ use Rattle.operations.proofs.Applied.{apply-kept}
 use Rattle.oplog.specs.Step.{stepNumber, reading, writing, stepOf, stepOut}
 use Rattle.oplog.specs.Run.{Ended, ended, runFrom}
 use Rattle.oplog.specs.declared.StepAnswer.{StepAnswer}
-use Rattle.oplog.specs.declared.StepAnswer.the-variants.{Took, Short, BadMark, BadOp}
+use Rattle.oplog.specs.declared.StepAnswer.the-variants.{Took, Short, BadMark, BadOp, BadOperand}
 use Rattle.oplog.specs.declared.Stepped.{Stepped}
 use Rattle.oplog.specs.declared.Ran.{Ran}
 
 -- a part to the end
-pub whole-tail : (out : List ℕ) (at : ℕ) → take (length out - at) (drop at out) ≡ drop at out
-whole-tail out at = take-all (length out - at) (drop at out) (omega (arith, length-drop at out))
-
 pub tail-long : (out : List ℕ) (at : ℕ) → length (take (length out - at) (drop at out)) ≡ length out - at
 tail-long out at = rw (whole-tail out at) (length-drop at out)
 
 -- ---- what a step does to the log and the tables
-all-reading : {A : Type 0} (P : A → Type 0) (q : read.Read) (f : StepAnswer → A) (g : ℕ → ℕ → A) → P (f Short) → P (f BadMark) → P (f BadOp) → ((op len : ℕ) → q ≡ read.the-variants.Whole op len → P (g op len)) → P (reading q f g)
+all-reading : {A : Type 0} (P : A → Type 0) (q : read.Read) (f : StepAnswer → A) (g : ℕ → ℕ → A) → P (f Short) → P (f BadMark) → P (f BadOp) → P (f BadOperand) → ((op len : ℕ) → q ≡ read.the-variants.Whole op len → P (g op len)) → P (reading q f g)
 unfolding reading
-all-reading P read.the-variants.Short f g x y z w = x
-all-reading P read.the-variants.BadMark f g x y z w = y
-all-reading P read.the-variants.BadOp f g x y z w = z
-all-reading P (read.the-variants.Whole op len) f g x y z w = w op len refl
+all-reading P read.the-variants.Short f g x y z v w = x
+all-reading P read.the-variants.BadMark f g x y z v w = y
+all-reading P read.the-variants.BadOp f g x y z v w = z
+all-reading P read.the-variants.BadOperand f g x y z v w = v
+all-reading P (read.the-variants.Whole op len) f g x y z v w = w op len refl
 
 all-writing : {A : Type 0} (P : A → Type 0) (q : Written) (x : A) (g : ℕ → A) → P x → ((n : ℕ) → P (g n)) → P (writing q x g)
 unfolding writing
@@ -50,15 +47,15 @@ Used log s = stepNumber (s .answer) ≡ 0 → (3 ≤ s .used) × (s .used ≤ le
 pub used : (log out : List ℕ) (number at : ℕ) (t : Tables) → Used log (stepOf log number out at t)
 unfolding stepOf
 used log out number at t =
-    all-reading (Used log) (readOf log) _ _ (λ e. absurd (omega arith)) (λ e. absurd (omega arith)) (λ e. absurd (omega arith)) (λ op len r.
-    all-pick (Used log) _ _ _ (λ _. all-writing (Used log) _ _ _ (λ e. absurd (omega arith)) (λ next e. let w = whole log op len r in (omega (arith, w .counted), w .within))) (λ _ e. absurd (omega arith)))
+    all-reading (Used log) (readOf log) _ _ (λ e. absurd (omega arith)) (λ e. absurd (omega arith)) (λ e. absurd (omega arith)) (λ e. absurd (omega arith)) (λ op len r.
+    all-writing (Used log) _ _ _ (λ e. absurd (omega arith)) (λ next e. let w = whole log op len r in (omega (arith, w .counted), w .within)))
 
 -- a step keeps the channel table sound
 pub step-kept : (log out : List ℕ) (number at : ℕ) (t : Tables) → Sound (t .channels) → Sound (stepOf log number out at t .tables .channels)
 unfolding stepOf
 step-kept log out number at t s =
-    all-reading (λ (r : Stepped). Sound (r .tables .channels)) (readOf log) _ _ s s s (λ op len _.
-    all-pick (λ (r : Stepped). Sound (r .tables .channels)) _ _ _ (λ _. all-writing (λ (r : Stepped). Sound (r .tables .channels)) _ _ _ s (λ _. apply-kept log t op s)) (λ _. s))
+    all-reading (λ (r : Stepped). Sound (r .tables .channels)) (readOf log) _ _ s s s s (λ op len _.
+    all-writing (λ (r : Stepped). Sound (r .tables .channels)) _ _ _ s (λ _. apply-kept log t op s))
 
 -- ---- the turns
 module _ (all : ℕ) (rest : List ℕ) (done : ℕ) (out : List ℕ) (at : ℕ) (t : Tables) where

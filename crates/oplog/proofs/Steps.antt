@@ -1,15 +1,15 @@
 -- The ways of a step: each fault, a line without room, a record taken. Assumes nothing.
-use mathlib.Core.Path.{_≡_, refl, ap}
-use mathlib.Core.Bool.{true, false}
-use mathlib.Core.List.{List, [], _∷_}
-use Prim.Native.Nat.{ℕ, zero, suc, _≤_}
+use mathlib.Core.Path.{_≡_, refl, sym, ap}
+use mathlib.Core.List.{List, [], _∷_, _++_}
+use Prim.Native.Nat.{ℕ, zero, suc, _+_, _-_, _<_, _≤_}
 use native.Mathlib.Nat.{not-suc-le-zero, le-of-suc-le-suc}
-use lib.ListN.{length, take}
-use Rattle.laws.specs.Pick.{pick}
+use native.Mathlib.Omega.{arith}
+use lib.ListN.{length, take, drop}
 use Rattle.line.specs.Line.{lineOf}
-use Rattle.line.specs.Put.{written, putOf}
+use Rattle.line.specs.Put.{written, putOf, fromTail}
 use Rattle.line.specs.declared.Written.{Written}
 use Rattle.line.specs.declared.Written.the-variants.{Upto, NoRoom as Crowded}
+use Rattle.line.proofs.Room as room
 use Rattle.logread.specs.Read.{readOf}
 use Rattle.logread.specs.declared.Read as read
 use Rattle.operations.specs.Done.{packed}
@@ -18,7 +18,7 @@ use Rattle.operations.specs.Apply.{applyOf}
 use Rattle.operations.specs.declared.Tables.{Tables}
 use Rattle.operations.specs.declared.Outcome.{Outcome}
 use Rattle.operations.proofs.Applied.{apply-few}
-use Rattle.oplog.specs.Step.{operandsOk, reading, writing, textOf, refusedStep, stepOf, stepOut}
+use Rattle.oplog.specs.Step.{reading, writing, textOf, refusedStep, stepOf, stepOut}
 use Rattle.oplog.specs.declared.StepAnswer.the-variants.{Took, Short, BadMark, BadOp, BadOperand, NoRoom}
 use Rattle.oplog.specs.declared.Stepped.{Stepped}
 
@@ -45,26 +45,44 @@ module _ (log out : List ℕ) (number at : ℕ) (t : Tables) where
   unfolding stepOf stepOut reading
   bad-op e = (rw e refl, rw e refl)
 
-  module _ (op len : ℕ) (er : readOf log ≡ read.the-variants.Whole op len) where
-    pub bad-operand : operandsOk op log ≡ false → (refusedStep at t BadOperand ≡ stepOf log number out at t) × (out ≡ stepOut log number out at t)
-    unfolding stepOf stepOut reading pick
-    bad-operand e = (rw (er, e) refl, rw (er, e) refl)
+  pub bad-operand : readOf log ≡ read.the-variants.BadOperand → (refusedStep at t BadOperand ≡ stepOf log number out at t) × (out ≡ stepOut log number out at t)
+  unfolding stepOf stepOut reading
+  bad-operand e = (rw e refl, rw e refl)
 
-    -- d is what the operation came to, w what writing its line answered, left the buffer then
-    module _ (left : List ℕ) (d : Outcome) (w : Written) (eo : operandsOk op log ≡ true) (ed : d ≡ packed (applyOf op log t))
-        (ew : w ≡ putOf out at (lineOf number op (d .number) (take (d .count) (d .values))))
-        (el : left ≡ written out at (lineOf number op (d .number) (take (d .count) (d .values)))) where
-      text : lineOf number op (d .number) (take (d .count) (d .values)) ≡ textOf number op (applyOf op log t)
-      text = rw (ed, shown (applyOf op log t .values) (apply-few log t op))
+  -- d is what the operation came to
+  module _ (op len : ℕ) (er : readOf log ≡ read.the-variants.Whole op len) (d : Outcome) (ed : d ≡ packed (applyOf op log t)) where
+    abbrev line : List ℕ
+    line = lineOf number op (d .number) (take (d .count) (d .values))
 
-      left-is : left ≡ stepOut log number out at t
-      unfolding stepOut reading pick
-      left-is = rw (er, eo, ← text) el
+    text : line ≡ textOf number op (applyOf op log t)
+    text = rw (ed, shown (applyOf op log t .values) (apply-few log t op))
 
-      pub took : (next : ℕ) → w ≡ Upto next → (_≡_ {A = Stepped} (record { answer = Took; used = len; at = next; tables = d .tables }) (stepOf log number out at t)) × (left ≡ stepOut log number out at t)
-      unfolding stepOf reading writing pick
-      took next e = (rw (er, eo, ← text, ← ew, e, ed) refl, left-is)
+    -- what the step comes to, from what writing the line comes to
+    left-is : {left : List ℕ} → left ≡ written out at line → left ≡ stepOut log number out at t
+    unfolding stepOut reading
+    left-is e = rw (er, ← text) e
 
-      pub no-room : w ≡ Crowded → (refusedStep at t NoRoom ≡ stepOf log number out at t) × (left ≡ stepOut log number out at t)
-      unfolding stepOf reading writing pick
-      no-room e = (rw (er, eo, ← text, ← ew, e) refl, left-is)
+    crowded : putOf out at line ≡ Crowded → refusedStep at t NoRoom ≡ stepOf log number out at t
+    unfolding stepOf reading writing
+    crowded e = rw (er, ← text, e) refl
+
+    -- a place past the buffer's end
+    pub past-end : length out < at → (refusedStep at t NoRoom ≡ stepOf log number out at t) × (out ≡ stepOut log number out at t)
+    past-end h = let r = room.no-room out at line (omega arith) in (crowded (sym (r .0)), left-is (r .1))
+
+    -- the tail was lent: w is what its writer answered, left the tail then
+    module _ (h : at ≤ length out) (left : List ℕ) (w : Written) (ew : w ≡ putOf (take (length out - at) (drop at out)) 0 line)
+        (el : left ≡ written (take (length out - at) (drop at out)) 0 line) where
+      abbrev whole : List ℕ
+      whole = take at out ++ (left ++ drop (length out - at) (drop at out))
+
+      back : (fromTail at w ≡ putOf out at line) × (whole ≡ written out at line)
+      back = room.lent out at line h ew el
+
+      pub took : (n : ℕ) → w ≡ Upto n → (_≡_ {A = Stepped} (record { answer = Took; used = len; at = at + n; tables = d .tables }) (stepOf log number out at t)) × (whole ≡ stepOut log number out at t)
+      unfolding stepOf reading writing fromTail
+      took n e = (rw (er, ← text, ← back .0, e, ed) refl, left-is (back .1))
+
+      pub no-room : w ≡ Crowded → (refusedStep at t NoRoom ≡ stepOf log number out at t) × (whole ≡ stepOut log number out at t)
+      unfolding fromTail
+      no-room e = (crowded (rw (← back .0, e) refl), left-is (back .1))

@@ -1,13 +1,11 @@
 -- A step beside what its record says, and the turns of a log's text. Assumes nothing.
 use mathlib.Core.Path.{_≡_, refl, sym, ap, _∙_}
-use mathlib.Core.Bool.{Bool, true, false}
 use mathlib.Core.List.{List, [], _++_}
 use Prim.Native.Nat.{ℕ, zero, suc, _+_, _-_, _<_, _≤_}
 use native.Mathlib.Omega.{arith}
 use lib.ListN.{length, take, drop, length-drop}
 use borrow.Author.Tests.{lt-ltb, le-ltb, eq-eqb, ne-eqb}
 use Rattle.laws.specs.Pick.{pick}
-use Rattle.laws.proofs.Cases.{all-pick}
 use Rattle.line.specs.Line.{endOf, badOf}
 use Rattle.line.specs.Put.{written, putOf}
 use Rattle.line.specs.declared.Written.{Written}
@@ -18,7 +16,7 @@ use Rattle.logread.specs.declared.Read as read
 use Rattle.logread.proofs.Records.{whole}
 use Rattle.operations.specs.Apply.{applyOf}
 use Rattle.operations.specs.declared.Tables.{Tables}
-use Rattle.oplog.specs.Step.{stepNumber, operandsOk, reading, writing, textOf, refusedStep, stepOf, stepOut}
+use Rattle.oplog.specs.Step.{stepNumber, reading, writing, textOf, refusedStep, stepOf, stepOut}
 use Rattle.oplog.specs.Text.{Said, fault, saidOf, textFrom}
 use Rattle.oplog.specs.declared.StepAnswer.{StepAnswer}
 use Rattle.oplog.specs.declared.StepAnswer.the-variants.{Took, Short, BadMark, BadOp, BadOperand, NoRoom, BadTable}
@@ -48,20 +46,16 @@ module _ (log out : List ℕ) (number at : ℕ) (t : Tables) where
     by-writing (Upto n) e = took refl refl refl refl (upto-stands out at text n e) (rw (written-length out at text) (upto-fits out at text n e .1))
     by-writing Crowded e = crowded refl (no-room-keeps out at text e)
 
-    by-operands : (b : Bool) → Ways (pick b said (fault t BadOperand)) (pick b (writing (putOf out at text) (refusedStep at t NoRoom) (λ next. record { answer = Took; used = len; at = next; tables = applyOf op log t .tables })) (refusedStep at t BadOperand)) (pick b (written out at text) out)
-    unfolding pick
-    by-operands true = by-writing (putOf out at text) refl
-    by-operands false = faulty refl (λ e. omega arith) (λ e. omega arith) refl
-
   by-reading : (q : read.Read) → Ways
-      (reading q (fault t) (λ op len. pick (operandsOk op log) (said op len) (fault t BadOperand)))
-      (reading q (refusedStep at t) (λ op len. pick (operandsOk op log) (writing (putOf out at (text op len)) (refusedStep at t NoRoom) (λ next. record { answer = Took; used = len; at = next; tables = applyOf op log t .tables })) (refusedStep at t BadOperand)))
-      (reading q (λ _. out) (λ op len. pick (operandsOk op log) (written out at (text op len)) out))
+      (reading q (fault t) said)
+      (reading q (refusedStep at t) (λ op len. writing (putOf out at (text op len)) (refusedStep at t NoRoom) (λ next. record { answer = Took; used = len; at = next; tables = applyOf op log t .tables })))
+      (reading q (λ _. out) (λ op len. written out at (text op len)))
   unfolding reading
   by-reading read.the-variants.Short = faulty refl (λ e. omega arith) (λ e. omega arith) refl
   by-reading read.the-variants.BadMark = faulty refl (λ e. omega arith) (λ e. omega arith) refl
   by-reading read.the-variants.BadOp = faulty refl (λ e. omega arith) (λ e. omega arith) refl
-  by-reading (read.the-variants.Whole op len) = by-operands op len (operandsOk op log)
+  by-reading read.the-variants.BadOperand = faulty refl (λ e. omega arith) (λ e. omega arith) refl
+  by-reading (read.the-variants.Whole op len) = by-writing op len (putOf out at (text op len)) refl
 
   pub step-ways : StepWays (saidOf log number t) out at t (stepOf log number out at t) (stepOut log number out at t)
   unfolding saidOf stepOf stepOut
@@ -84,13 +78,13 @@ pub took-number : (a : StepAnswer) → a ≡ Took → stepNumber a ≡ 0
 took-number a e = rw e refl
 
 module _ (log : List ℕ) (number : ℕ) (t : Tables) where
-  by-reading-used : (q : read.Read) → readOf log ≡ q → Used log (reading q (fault t) (λ op len. pick (operandsOk op log) (said log [] number 0 t op len) (fault t BadOperand)))
+  by-reading-used : (q : read.Read) → readOf log ≡ q → Used log (reading q (fault t) (said log [] number 0 t))
   unfolding reading
   by-reading-used read.the-variants.Short r e = absurd (let z = took-number _ e in omega arith)
   by-reading-used read.the-variants.BadMark r e = absurd (let z = took-number _ e in omega arith)
   by-reading-used read.the-variants.BadOp r e = absurd (let z = took-number _ e in omega arith)
-  by-reading-used (read.the-variants.Whole op len) r e =
-      all-pick (Used log) (operandsOk op log) _ _ (λ _ e. let w = whole log op len r in (omega (arith, w .counted), w .within)) (λ _ e. absurd (let z = took-number _ e in omega arith)) e
+  by-reading-used read.the-variants.BadOperand r e = absurd (let z = took-number _ e in omega arith)
+  by-reading-used (read.the-variants.Whole op len) r e = let w = whole log op len r in (omega (arith, w .counted), w .within)
 
   pub said-used : stepNumber (saidOf log number t .answer) ≡ 0 → (3 ≤ saidOf log number t .used) × (saidOf log number t .used ≤ length log)
   unfolding saidOf

@@ -3,3 +3,4 @@ pub mod Run
 pub mod Border
 pub mod Text
 pub mod Replay
+pub mod Ends

@@ -20,9 +20,9 @@ use Rattle.oplog.specs.declared.replay.Place.{Place}
 use Rattle.oplog.specs.declared.replay.Part.{Part}
 use Rattle.oplog.specs.declared.Ran.{Ran}
 
--- a place that a replay of the log can come to: inside the log, no more records than bytes before it, and a sound channel table
-abbrev pub reachable : List ℕ → Place → Bool
-reachable log p = (leb (p .offset) (length log) && leb (p .done) (p .offset)) && soundTest (p .tables .channels)
+-- a place fits a log: its offset is inside the log, it has no more records than bytes before it, and its channel table is sound
+abbrev pub placeFits : List ℕ → Place → Bool
+placeFits log p = (leb (p .offset) (length log) && leb (p .done) (p .offset)) && soundTest (p .tables .channels)
 
 -- a part of the text and the buffer that has it
 pub record Filled : Type 0 where
@@ -56,16 +56,16 @@ endingOf from r =
 abbrev pub ranOf : List ℕ → List ℕ → Place → Ended
 ranOf log out p = runOf (drop (p .offset) log) (p .done) out (p .tables)
 
--- a place that no replay of this log comes to is refused with 27; a log over 65,536 bytes has one line
+-- a place that does not fit the log is refused with 27, first of all; of a log over 65,536 bytes (28) there is one line
 unfoldable pub replayOf : List ℕ → List ℕ → Place → Filled
 replayOf log out p =
-    pick (reachable log p)
+    pick (placeFits log p)
     (pick (ltb most (length log)) (lastOf out 0 no.tooLong most p)
     (endingOf (p .offset) (ranOf log out p)))
     (filled BadTable 0 p out)
 
 -- ---- a whole replay
--- a place that a replay of the log can come to, said of the tables themselves
+-- a place fits a log, as a proposition
 pub record Placed (log : List ℕ) (p : Place) : Type 0 where
   pub inside : p .offset ≤ length log
   pub counted : p .done ≤ p .offset

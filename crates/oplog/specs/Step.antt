@@ -1,17 +1,12 @@
 -- Document 01, "The operation log and what replay prints": a step reads one record and writes one line. Its faults come in the order
 -- Short, BadMark, Short, BadOp, Short, BadOperand, NoRoom; a refused step hands on the log unmoved, writes nothing and keeps the tables.
-use mathlib.Core.Bool.{Bool, true, _||_}
-use mathlib.Core.List.{List}
+use mathlib.Core.List.{List, []}
 use Prim.Native.Nat.{ℕ}
-use lib.Dec.{eqb}
-use Rattle.laws.specs.Pick.{pick}
 use Rattle.laws.specs.Refusals as no
 use Rattle.line.specs.Line.{lineOf}
 use Rattle.line.specs.Put.{written, putOf}
 use Rattle.line.specs.declared.Written.{Written}
 use Rattle.line.specs.declared.Written.the-variants.{Upto, NoRoom as Crowded}
-use Rattle.logread.specs.Little.{byteAt}
-use Rattle.logread.specs.Lists.{flagOk, listOk}
 use Rattle.logread.specs.Read.{readOf}
 use Rattle.logread.specs.declared.Read as read
 use Rattle.operations.specs.Done.{Done}
@@ -30,20 +25,16 @@ stepNumber BadOperand = no.badOperand
 stepNumber NoRoom = no.noRoom
 stepNumber BadTable = no.badTable
 
--- BadOperand is a flag or presence byte above 1, or presence 0 with a non-zero id: create has the one flag, register and release a list,
--- seed and spawn a list after the row
-unfoldable pub operandsOk : ℕ → List ℕ → Bool
-operandsOk op log =
-    pick (eqb op 1) (flagOk (byteAt log 3))
-    (pick (eqb op 7 || eqb op 8) (listOk log 3)
-    (pick (eqb op 15 || eqb op 24) (listOk log 4)
-    true))
+-- a step's answer shows no values of its own: those of a record stand in its line
+abbrev pub stepValues : StepAnswer → List ℕ
+stepValues a = []
 
 -- what follows from reading a record: its fault, or its operation and its length
 unfoldable pub reading : {A : Type 0} → read.Read → (StepAnswer → A) → (ℕ → ℕ → A) → A
 reading read.the-variants.Short f g = f Short
 reading read.the-variants.BadMark f g = f BadMark
 reading read.the-variants.BadOp f g = f BadOp
+reading read.the-variants.BadOperand f g = f BadOperand
 reading (read.the-variants.Whole op len) f g = g op len
 
 -- what follows from writing a line: that there was no room, or the place past it
@@ -62,13 +53,10 @@ refusedStep at t a = record { answer = a; used = 0; at = at; tables = t }
 unfoldable pub stepOf : List ℕ → ℕ → List ℕ → ℕ → Tables → Stepped
 stepOf log number out at t =
     reading (readOf log) (refusedStep at t) (λ op len.
-    pick (operandsOk op log)
-    (writing (putOf out at (textOf number op (applyOf op log t))) (refusedStep at t NoRoom) (λ next.
+    writing (putOf out at (textOf number op (applyOf op log t))) (refusedStep at t NoRoom) (λ next.
     record { answer = Took; used = len; at = next; tables = applyOf op log t .tables }))
-    (refusedStep at t BadOperand))
 
 -- the whole buffer afterwards
 unfoldable pub stepOut : List ℕ → ℕ → List ℕ → ℕ → Tables → List ℕ
 stepOut log number out at t =
-    reading (readOf log) (λ _. out) (λ op len.
-    pick (operandsOk op log) (written out at (textOf number op (applyOf op log t))) out)
+    reading (readOf log) (λ _. out) (λ op len. written out at (textOf number op (applyOf op log t)))

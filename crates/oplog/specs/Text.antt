@@ -11,9 +11,9 @@ use Rattle.logread.specs.Read.{readOf}
 use Rattle.operations.specs.Apply.{applyOf}
 use Rattle.operations.specs.Channels.{allFresh}
 use Rattle.operations.specs.declared.Tables.{Tables}
-use Rattle.oplog.specs.Step.{stepNumber, operandsOk, reading, textOf}
+use Rattle.oplog.specs.Step.{stepNumber, reading, textOf}
 use Rattle.oplog.specs.declared.StepAnswer.{StepAnswer}
-use Rattle.oplog.specs.declared.StepAnswer.the-variants.{Took, BadOperand}
+use Rattle.oplog.specs.declared.StepAnswer.the-variants.{Took}
 use Rattle.oplog.specs.declared.replay.Place.{Place}
 
 -- what one record comes to: taken, with its length, its line and the tables afterwards, or its fault
@@ -29,9 +29,7 @@ fault t a = record { answer = a; used = 0; text = []; tables = t }
 unfoldable pub saidOf : List ℕ → ℕ → Tables → Said
 saidOf log number t =
     reading (readOf log) (fault t) (λ op len.
-    pick (operandsOk op log)
-    (record { answer = Took; used = len; text = textOf number op (applyOf op log t); tables = applyOf op log t .tables })
-    (fault t BadOperand))
+    record { answer = Took; used = len; text = textOf number op (applyOf op log t); tables = applyOf op log t .tables })
 
 -- the text of what is left of a log from an offset on, after `done` records; k records at most
 unfoldable pub textFrom : ℕ → List ℕ → ℕ → ℕ → Tables → List ℕ

@@ -1,13 +1,10 @@
 // The step and the run on tables whose channel table is known to be sound.
 ghost use mathlib.Core.Path.{_≡_};
-ghost use mathlib.Core.Bool.{_||_};
 ghost use Prim.Native.Nat.{_+_, _<_, _^_};
-ghost use lib.Dec.{eqb};
 ghost use lib.ListN.{length};
-ghost use Rattle.laws.specs.Pick.{pick};
 ghost use Rattle.ipc.specs.Sound.{Sound};
 ghost use Rattle.oplog.specs.Run.{runOf};
-ghost use Rattle.oplog.specs.Step.{operandsOk, stepOf, stepOut};
+ghost use Rattle.oplog.specs.Step.{stepOf, stepOut};
 use crate::Ran;
 use crate::StepAnswer;
 use crate::Stepped;
@@ -15,31 +12,8 @@ use line::Written;
 use logread::Read;
 use operations::Tables;
 
-// Where a list starts: that of register and release at once, that of seed and spawn after the row.
-fn list_at(op: u8) -> usize
-    ensures { λ r. ⌜ r ≡ pick (eqb op 7 || eqb op 8) 3 4 ⌝ }
-{
-    if (op == 7) | (op == 8) {
-        return 3;
-    }
-    4
-}
-
-// Refusal 25: the flag of create, and the lists of register, release, seed and spawn. One call tests all lists for the optimiser's sake:
-// with one more way through here it has `step` copy the tables before it hands them to `apply`, and a replay takes half as long again.
-fn operands_ok(op: u8, log: &[u8]) -> bool
-    ensures { λ r. ⌜ r ≡ operandsOk op (now (log .entry)) ⌝ }
-{
-    if op == 1 {
-        return logread::flag_ok(logread::byte_at(log, 3));
-    }
-    if ((op == 7) | (op == 8)) | ((op == 15) | (op == 24)) {
-        return logread::list_ok(log, list_at(op));
-    }
-    true
-}
-
-// One record of the log, and its line from place `at` of the lent buffer on.
+// One record of the log, and its line from place `at` of the lent buffer on: the line's writer is lent the tail that is free. A place past the
+// buffer's end has no room.
 pub fn step(log: &[u8], number: u64, out: &mut [u8], at: usize, t: Tables) -> Stepped
     requires { ⌜ Sound (t .channels) ⌝ }
     ensures answer { λ r. ⌜ r ≡ stepOf (now (log .entry)) number (now (out .entry)) at t ⌝ }
@@ -64,31 +38,36 @@ pub fn step(log: &[u8], number: u64, out: &mut [u8], at: usize, t: Tables) -> St
             at,
             tables: t,
         },
+        Read::BadOperand => Stepped {
+            answer: StepAnswer::BadOperand,
+            used: 0,
+            at,
+            tables: t,
+        },
         Read::Whole { op, len } => {
-            if !operands_ok(op, log) {
+            let done = operations::inner::apply(op, t, log);
+            let values = done.values;
+            let after = done.tables;
+            if out.len() < at {
                 return Stepped {
-                    answer: StepAnswer::BadOperand,
+                    answer: StepAnswer::NoRoom,
                     used: 0,
                     at,
                     tables: t,
                 };
             }
-            let done = operations::apply(op, t, log);
-            let values = done.values;
-            let after = done.tables;
             match line::write_line(
-                out,
-                at,
+                &mut out[at..],
                 number,
                 op as u64,
                 done.number as u64,
                 values,
                 done.count,
             ) {
-                Written::Upto(next) => Stepped {
+                Written::Upto(n) => Stepped {
                     answer: StepAnswer::Took,
                     used: len,
-                    at: next,
+                    at: at + n,
                     tables: after,
                 },
                 Written::NoRoom => Stepped {

@@ -1,5 +1,7 @@
 // A replay over lent buffers: each call goes on from a place of the log and fills a buffer with the next part of the text.
 ghost use mathlib.Core.Path.{_≡_};
+ghost use Prim.Native.Nat.{_≤_};
+ghost use lib.ListN.{length};
 ghost use Rattle.line.specs.Put.{written, putOf};
 ghost use Rattle.oplog.specs.Replay.{lastLine, lastOf, replayOf};
 ghost use Rattle.oplog.specs.Text.{startOf};
@@ -37,7 +39,7 @@ pub fn start() -> Place
         endpoints: 64,
         depth: 8,
     };
-    let made = operations::channels::all_fresh(sizes);
+    let made = operations::all_fresh(sizes);
     let tables = made.tables;
     Place {
         offset: 0,
@@ -46,26 +48,27 @@ pub fn start() -> Place
     }
 }
 
-// `end` and the number of records where the fault's number is 0, else `bad`.
-fn write_last(out: &mut [u8], at: usize, number: u8, offset: usize, done: u64) -> Written
-    ensures answer { λ r. ⌜ r ≡ putOf (now (out .entry)) at (lastLine number offset done) ⌝ }
-    ensures buffer { λ _. ⌜ now (out .exit) ≡ written (now (out .entry)) at (lastLine number offset done) ⌝ }
+// `end` and the number of records where the fault's number is 0, else `bad`, at the start of the buffer's free tail.
+fn write_last(free: &mut [u8], number: u8, offset: usize, done: u64) -> Written
+    ensures answer { λ r. ⌜ r ≡ putOf (now (free .entry)) 0 (lastLine number offset done) ⌝ }
+    ensures buffer { λ _. ⌜ now (free .exit) ≡ written (now (free .entry)) 0 (lastLine number offset done) ⌝ }
 {
     if number == refusals::ACCEPTED {
-        return line::write_end(out, at, done);
+        return line::write_end(free, done);
     }
-    line::write_bad(out, at, offset as u64, number as u64)
+    line::write_bad(free, offset as u64, number as u64)
 }
 
-// The last line where it has room.
+// The last line, its writer lent the buffer's free tail, where it has room.
 fn last(out: &mut [u8], at: usize, number: u8, offset: usize, place: Place) -> Part
+    requires { ⌜ at ≤ length (now out) ⌝ }
     ensures answer { λ r. ⌜ r ≡ lastOf (now (out .entry)) at number offset place .part ⌝ }
     ensures buffer { λ _. ⌜ now (out .exit) ≡ lastOf (now (out .entry)) at number offset place .buffer ⌝ }
 {
-    match write_last(out, at, number, offset, place.done) {
-        Written::Upto(next) => Part {
+    match write_last(&mut out[at..], number, offset, place.done) {
+        Written::Upto(n) => Part {
             answer: StepAnswer::Took,
-            at: next,
+            at: at + n,
             place,
         },
         Written::NoRoom => Part {
@@ -76,7 +79,8 @@ fn last(out: &mut [u8], at: usize, number: u8, offset: usize, place: Place) -> P
     }
 }
 
-// The next part of what the log's replay prints.
+// The next part of what the log's replay prints. 27 where the place does not fit the log: an offset past its end, more records than bytes
+// before it, or an unsound channel table. 28 is no answer but the line that is printed of too long a log.
 pub fn replay(log: &[u8], out: &mut [u8], from: Place) -> Part
     ensures answer { λ r. ⌜ r ≡ replayOf (now (log .entry)) (now (out .entry)) from .part ⌝ }
     ensures buffer { λ _. ⌜ now (out .exit) ≡ replayOf (now (log .entry)) (now (out .entry)) from .buffer ⌝ }

@@ -2,11 +2,7 @@
 use Prim.Native.Nat.{ℕ}
 use lib.ListN.{replicate}
 use Rattle.laws.specs.declared.Place.{Place}
-use Rattle.laws.specs.declared.Place.the-variants.{At, Nowhere}
-use Rattle.cap.specs.Id.{classOf}
 use Rattle.cap.specs.declared.CapId.{CapId}
-use Rattle.cap.specs.declared.CapClass.{CapClass}
-use Rattle.cap.specs.declared.CapClass.the-variants.{Endpoint, Task, Irq, Invalid}
 use Rattle.mint.specs.Entry.{noEntry}
 use Rattle.mint.specs.Entries.{freeEntry, mintWith, lookupIn, endedIn, heldBy}
 use Rattle.mint.specs.declared.LookupAnswer.{LookupAnswer}
@@ -26,16 +22,9 @@ freeEntryOf t = freeEntry 32 (t .entries)
 unfoldable pub mintOf : Table → ℕ → Minted
 mintOf t task = mintWith 32 16384 (t .entries) task (λ a es. record { answer = a; table = record { entries = es } })
 
--- the entry that an id of this class names
-unfoldable pub taskPlace : CapClass → Place
-taskPlace (Endpoint p) = Nowhere
-taskPlace (Task p) = At p
-taskPlace (Irq p) = Nowhere
-taskPlace Invalid = Nowhere
-
 -- the task that an id names
 unfoldable pub lookupOf : Table → CapId → LookupAnswer
-lookupOf t c = lookupIn 32 (t .entries) (taskPlace (classOf c)) c
+lookupOf t c = lookupIn 32 16384 (t .entries) c
 
 -- the end of a task kills its live entries and counts them
 unfoldable pub revokeOf : Table → ℕ → Revoked

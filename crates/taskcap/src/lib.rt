@@ -31,11 +31,7 @@ pub struct Revoked {
 pub fn new() -> Table
     ensures { λ r. ⌜ r ≡ freshTable ⌝ }
 {
-    let empty = Entry {
-        live: false,
-        generation: 0,
-        number: 0,
-    };
+    let empty = Entry::EMPTY;
     Table {
         entries: [empty; MAX_TASK_CAPS],
     }

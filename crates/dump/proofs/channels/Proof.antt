@@ -5,16 +5,16 @@ use Rattle.dump.proofs.channels.Statement.{statement}
 use Rattle.dump.proofs.channels.Tie as tie
 
 abbrev Inv-loop : tie.InvT-loop
-Inv-loop t k₀ k = k ≤ 32
+Inv-loop t whole₀ k₀ whole k = k ≤ 32
 
 abbrev μ-loop : tie.MeasureT-loop
-μ-loop t k₀ k = 32 - k
+μ-loop t whole₀ k₀ whole k = 32 - k
 
 abbrev Inv-loop2 : tie.InvT-loop2
-Inv-loop2 t k i₀ i = i ≤ 64
+Inv-loop2 t whole₀ k i₀ whole i = i ≤ 64
 
 abbrev μ-loop2 : tie.MeasureT-loop2
-μ-loop2 t k i₀ i = 64 - i
+μ-loop2 t whole₀ k i₀ whole i = 64 - i
 
 head-requires : tie.Need-head-requires Inv-loop μ-loop Inv-loop2 μ-loop2
 head-requires c κs = search needs

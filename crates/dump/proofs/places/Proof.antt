@@ -5,10 +5,10 @@ use Rattle.dump.proofs.places.Statement.{statement}
 use Rattle.dump.proofs.places.Tie as tie
 
 abbrev Inv-loop : tie.InvT-loop
-Inv-loop i t p₀ p = p ≤ 8
+Inv-loop i t whole₀ p₀ whole p = p ≤ 8
 
 abbrev μ-loop : tie.MeasureT-loop
-μ-loop i t p₀ p = 8 - p
+μ-loop i t whole₀ p₀ whole p = 8 - p
 
 loop-holds : tie.Need-loop-holds Inv-loop μ-loop
 loop-holds c = search needs

@@ -5,10 +5,10 @@ use Rattle.dump.proofs.rows.Statement.{statement}
 use Rattle.dump.proofs.rows.Tie as tie
 
 abbrev Inv-loop : tie.InvT-loop
-Inv-loop t r₀ r = r ≤ 54
+Inv-loop t whole₀ r₀ whole r = r ≤ 54
 
 abbrev μ-loop : tie.MeasureT-loop
-μ-loop t r₀ r = 54 - r
+μ-loop t whole₀ r₀ whole r = 54 - r
 
 loop-holds : tie.Need-loop-holds Inv-loop μ-loop
 loop-holds c = search needs

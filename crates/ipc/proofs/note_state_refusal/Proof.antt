@@ -1,18 +1,22 @@
--- `ipc::note_state_refusal` meets its contract. Assumes nothing.
-use mathlib.Core.Path.{refl}
-use Rattle.ipc.proofs.Guards.{refused, served}
+-- `ipc::note_state_refusal` meets its contract: the test, and the call on a table that passed it. Assumes nothing.
 use borrow.Author.Needs.{needs}
+use Rattle.laws.proofs.Lists.{unmapped}
+use Rattle.ipc.specs.State.{Shape}
+use Rattle.ipc.proofs.Guards.{refused, served, passed}
 use Rattle.ipc.proofs.note_state_refusal.Statement.{statement}
 use Rattle.ipc.proofs.note_state_refusal.Tie as tie
+
+shape : (c : tie.Start) → Shape (c .args .t)
+shape c = record { endpoints = search (needs, unmapped); mailboxes = search (needs, unmapped); messages = search (needs, unmapped) }
 
 sound-requires : tie.Need-sound-requires
 sound-requires c κs = search needs
 
 returns : tie.Need-returns
-returns c = refused _ (c .before .sound .ensures) _ (c .if1 .taken) refl
+returns c = search (refused, needs)
 
 note-state-refusal-requires : tie.Need-note-state-refusal-requires
-note-state-refusal-requires c κs = search needs
+note-state-refusal-requires c κs = passed _ (c .before .sound .ensures) (shape (c .before .before)) (c .if1 .left)
 
 returns-2 : tie.Need-returns-2
 returns-2 c = served _ (c .before .before .sound .ensures) _ (c .before .if1 .left) (c .note-state-refusal .ensures)

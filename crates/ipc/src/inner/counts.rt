@@ -1,5 +1,6 @@
 // The refusal counts.
 ghost use mathlib.Core.Path.{_≡_};
+ghost use Rattle.ipc.specs.Sound.{Sound};
 ghost use Rattle.ipc.specs.Counts.{raised as raisedOf, noteAuthorityOf, noteStateOf};
 use crate::answers::NoteAnswer;
 use crate::answers::Noting;
@@ -17,6 +18,7 @@ pub fn raised(n: u32) -> u32
 
 // A refusal for want of authority that the table could not see: whoever knows the caller reports it here.
 pub fn note_authority_refusal(mut t: Table) -> Noting
+    requires { ⌜ Sound t ⌝ }
     ensures { λ r. ⌜ r ≡ noteAuthorityOf t ⌝ }
 {
     let more = raised(t.refusals.authority);
@@ -29,6 +31,7 @@ pub fn note_authority_refusal(mut t: Table) -> Noting
 
 // A refusal that means bookkeeping asked for something impossible, found outside the table.
 pub fn note_state_refusal(mut t: Table) -> Noting
+    requires { ⌜ Sound t ⌝ }
     ensures { λ r. ⌜ r ≡ noteStateOf t ⌝ }
 {
     let more = raised(t.refusals.state);

@@ -8,12 +8,13 @@ use crate::answers::ReleaseAnswer;
 use crate::answers::Releasing;
 use crate::inner::counts::raised;
 use crate::opening::Opening;
-use crate::opening::open_hold;
+use crate::opening::open;
 use crate::state::MAX_ENDPOINTS;
 use crate::state::Mailbox;
 use crate::state::Table;
 use crate::state::TaskId;
 use crate::state::Waiter;
+use cap::CapRights;
 use cap::Slot;
 
 fn more(mut b: Mailbox) -> Mailbox
@@ -54,10 +55,13 @@ pub fn register_holds(mut t: Table, list: &[u64]) -> Registering
     while n < list.len() {
         let slot = cap::slot_at(list, n);
         n += 1;
+        if !slot.present {
+            continue;
+        }
         let id = slot.id;
         let i = id.index() as usize;
         let ep = t.endpoints[i % MAX_ENDPOINTS];
-        let Opening::Opens(k) = open_hold(i < t.sizes.endpoints, ep, slot) else {
+        let Opening::Opens(k) = open(i < t.sizes.endpoints, ep, id, CapRights::SEND) else {
             continue;
         };
         t.mailboxes[k] = more(t.mailboxes[k]);
@@ -83,10 +87,13 @@ pub fn release_holds(mut t: Table, slots: [Slot; 4]) -> Releasing
     while n < 4 {
         let slot = slots[n];
         n += 1;
+        if !slot.present {
+            continue;
+        }
         let id = slot.id;
         let i = id.index() as usize;
         let ep = t.endpoints[i % MAX_ENDPOINTS];
-        let Opening::Opens(k) = open_hold(i < t.sizes.endpoints, ep, slot) else {
+        let Opening::Opens(k) = open(i < t.sizes.endpoints, ep, id, CapRights::SEND) else {
             continue;
         };
         let mut b = fewer(t.mailboxes[k]);

@@ -11,6 +11,7 @@ use crate::answers::RecvAnswer;
 use crate::answers::SendAnswer;
 use crate::answers::Sending;
 use crate::inner::counts::raised;
+use crate::inner::waiters::other_waits;
 use crate::opening::Opening;
 use crate::opening::open;
 use crate::state::MAX_DEPTH;
@@ -163,8 +164,7 @@ pub fn park(mut t: Table, cap: CapId, me: TaskId) -> Parking
             table: t,
         };
     }
-    let w = b.waiter;
-    if w.present & !((w.task.slot == me.slot) & (w.task.epoch == me.epoch)) {
+    if other_waits(b.waiter, me) {
         t.refusals.state = raised(t.refusals.state);
         return Parking {
             answer: ParkAnswer::Busy,

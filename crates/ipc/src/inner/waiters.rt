@@ -1,6 +1,7 @@
-// A task that is no longer to be woken.
+// Who waits on a mailbox, and a task that is no longer to be woken. A vacant place's task is never read.
 ghost use mathlib.Core.Path.{_≡_};
 ghost use Rattle.ipc.specs.Sound.{Sound};
+ghost use Rattle.ipc.specs.Receive.{sameTask, otherWaits};
 ghost use Rattle.ipc.specs.Waiters.{waitsOn, clearOf};
 use crate::answers::ClearAnswer;
 use crate::answers::Clearing;
@@ -10,10 +11,30 @@ use crate::state::Table;
 use crate::state::TaskId;
 use crate::state::Waiter;
 
+fn same_task(x: TaskId, y: TaskId) -> bool
+    ensures { λ r. ⌜ r ≡ sameTask x y ⌝ }
+{
+    (x.slot == y.slot) & (x.epoch == y.epoch)
+}
+
 fn waits_on(b: Mailbox, task: TaskId) -> bool
     ensures { λ r. ⌜ r ≡ waitsOn b task ⌝ }
 {
-    b.waiter.present & ((b.waiter.task.slot == task.slot) & (b.waiter.task.epoch == task.epoch))
+    let w = b.waiter;
+    if !w.present {
+        return false;
+    }
+    same_task(w.task, task)
+}
+
+// Whether another task than `me` waits in the place `w`.
+pub(crate) fn other_waits(w: Waiter, me: TaskId) -> bool
+    ensures { λ r. ⌜ r ≡ otherWaits w me ⌝ }
+{
+    if !w.present {
+        return false;
+    }
+    !same_task(w.task, me)
 }
 
 // Takes `task` out of every mailbox that it waits on, and counts them.

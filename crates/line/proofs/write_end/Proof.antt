@@ -33,7 +33,7 @@ returns c =
     let a = c .before .before .before .before .before .before .before .before .before .args in
     let t = c .before .before .before .before .before .before .said in
     let p = c .before .before .put in
-    from-buffer (a .out .now) (p .last .0) (a .at) _ (take (t .result) (t .last .0)) (p .result) (t .ensures .1) (p .ensures .0) (p .ensures .1)
+    from-buffer (a .free .now) (p .last .0) 0 _ (take (t .result) (t .last .0)) (p .result) (t .ensures .1) (p .ensures .0) (p .ensures .1)
 
 pub write-end-spec : {M : Type 1} → statement M
 write-end-spec =

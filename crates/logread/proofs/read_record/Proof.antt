@@ -3,7 +3,7 @@ use Rattle.logread.specs.Little.{byteAt}
 use Rattle.laws.proofs.Cases.{cases}
 use native.Mathlib.Omega.{arith}
 use Rattle.logread.specs.Read.{readOf}
-use Rattle.logread.proofs.Operands.{operands-few}
+use Rattle.logread.proofs.Few.{operands-few}
 use borrow.Author.Needs.{needs}
 use Rattle.logread.proofs.read_record.Statement.{statement}
 use Rattle.logread.proofs.read_record.Tie as tie
@@ -51,9 +51,16 @@ returns-5 : tie.Need-returns-5
 unfolding readOf
 returns-5 c = rw (← c .before .operand-length .ensures) (search cases depth 12)
 
+operands-ok-requires : tie.Need-operands-ok-requires
+operands-ok-requires c κs = search needs
+
 returns-6 : tie.Need-returns-6
 unfolding readOf
-returns-6 c = rw (← c .before .operand-length .ensures) (search cases depth 12)
+returns-6 c = rw (← c .before .before .before .operand-length .ensures, ← c .before .operands-ok .ensures) (search cases depth 16)
+
+returns-7 : tie.Need-returns-7
+unfolding readOf
+returns-7 c = rw (← c .before .before .before .operand-length .ensures, ← c .before .operands-ok .ensures) (search cases depth 16)
 
 pub read-record-spec : {M : Type 1} → statement M
 read-record-spec =
@@ -71,4 +78,6 @@ read-record-spec =
     operand-length-requires
     add-len
     returns-5
-    returns-6)
+    operands-ok-requires
+    returns-6
+    returns-7)

@@ -5,12 +5,12 @@ use borrow.Author.Needs.{needs}
 use Rattle.manifest.proofs.choose.Statement.{statement}
 use Rattle.manifest.proofs.choose.Tie as tie
 
-cast-place : tie.Need-cast-place
-cast-place c = search needs
-
 returns : tie.Need-returns
 unfolding choiceFrom
 returns c = search cases
+
+cast-place : tie.Need-cast-place
+cast-place c = search needs
 
 returns-2 : tie.Need-returns-2
 unfolding choiceFrom
@@ -29,4 +29,4 @@ unfolding choiceFrom
 returns-5 c = search cases
 
 pub choose-spec : {M : Type 1} → statement M
-choose-spec = tie.close (tie.spec cast-place returns returns-2 returns-3 returns-4 returns-5)
+choose-spec = tie.close (tie.spec returns cast-place returns-2 returns-3 returns-4 returns-5)

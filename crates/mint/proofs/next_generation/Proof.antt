@@ -4,6 +4,7 @@ use Prim.Native.Nat.{_+_}
 use native.Mathlib.Omega.{arith}
 use borrow.Author.Needs.{needs}
 use Rattle.laws.proofs.Cases.{cases}
+use Rattle.laws.proofs.Together.{_·_}
 use Rattle.mint.specs.Generation.{nextGeneration}
 use Rattle.mint.proofs.next_generation.Statement.{statement}
 use Rattle.mint.proofs.next_generation.Tie as tie
@@ -17,16 +18,6 @@ below c e = omega arith
 raised : (c : tie.Else1) → c .before .wrapping-add-u16 .result ≡ c .before .before .args .g + 1
 raised c = omega arith
 
-wrapping-add-u16-requires : tie.Need-wrapping-add-u16-requires
-wrapping-add-u16-requires c κs = search needs
-
-returns : tie.Need-returns
-unfolding nextGeneration
-returns c = search (cases, wrapped)
-
-returns-2 : tie.Need-returns-2
-unfolding nextGeneration
-returns-2 c = search (cases, below, raised)
-
 pub next-generation-spec : {M : Type 1} → statement M
-next-generation-spec = tie.close (tie.spec wrapping-add-u16-requires returns returns-2)
+unfolding nextGeneration
+next-generation-spec = tie.close (tie.spec · (search needs) · (λ c. search (cases, wrapped)) · (λ c. search (cases, below, raised)))

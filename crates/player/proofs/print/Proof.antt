@@ -33,10 +33,10 @@ inside : (log out : List ℕ) (p : Place) (r : Part) (left : List ℕ) → r ≡
 inside log out p r left er el = rw (er, el) (part-inside log out p)
 
 abbrev Inv-loop : tie.InvT-loop
-Inv-loop log out₀ place₀ going₀ out place going = length out ≡ length out₀
+Inv-loop log out₀ place₀ whole₀ going₀ out place whole going = length out ≡ length out₀
 
 abbrev μ-loop : tie.MeasureT-loop
-μ-loop log out₀ place₀ going₀ out place going = leftIf going (place .offset)
+μ-loop log out₀ place₀ whole₀ going₀ out place whole going = leftIf going (place .offset)
 
 start-requires : tie.Need-start-requires Inv-loop μ-loop
 start-requires c κs = search needs
@@ -64,7 +64,7 @@ loop-less c =
     let p = c .before .before .before .before .before .before .before .before .before .before .before .loop .place in
     let r = c .before .before .before .before .before .before .before .before .replay .result in
     let f : r .place .offset < 18446744073709551616 = search needs in
-    less _ (eqb (c .before .before .number .result) 26) (p .offset) (r .place .offset) (c .before .before .before .before .before .before .before .before .before .before .loop-test .taken) f
+    less _ (c .before .before .before .before .write-all .result && eqb (c .before .before .number .result) 26) (p .offset) (r .place .offset) (c .before .before .before .before .before .before .before .before .before .before .loop-test .taken) f
 
 loop-again : tie.Need-loop-again Inv-loop μ-loop
 loop-again c = search needs

@@ -6,6 +6,7 @@ use mathlib.Core.Logic.{⊎-elim}
 use Prim.Native.Nat.{ℕ, _-_, _≤_}
 use native.Mathlib.Omega.{arith}
 use borrow.Author.Needs.{needs}
+use Rattle.laws.proofs.Together.{_·_, _·²_, _·⁶_}
 use lib.ListN.{length}
 use Rattle.laws.proofs.Lists.{unmapped}
 use Rattle.laws.proofs.Sweep.{Swept, swept-none, swept-yes, swept-no, swept-few, swept-all}
@@ -39,32 +40,8 @@ revoked task h e = rw (← e .counts, ← swept-all _ _ _ _ 32 h e)
 loop-holds : tie.Need-loop-holds Inv-loop μ-loop
 loop-holds c = (search needs, swept-none _ _ _ _)
 
-mul-e : tie.Need-mul-e Inv-loop μ-loop
-mul-e c = search needs
-
-element-copy-out-e : tie.Need-element-copy-out-e Inv-loop μ-loop
-element-copy-out-e c = search needs
-
-is-of-requires : tie.Need-is-of-requires Inv-loop μ-loop
-is-of-requires c κs = search needs
-
-ended-requires : tie.Need-ended-requires Inv-loop μ-loop
-ended-requires c κs = search needs
-
-mul-t14 : tie.Need-mul-t14 Inv-loop μ-loop
-mul-t14 c = search needs
-
-element-set-from-t : tie.Need-element-set-from-t Inv-loop μ-loop
-element-set-from-t c = search needs
-
 add-count : tie.Need-add-count Inv-loop μ-loop
 add-count c = omega (arith, swept-few _ _ _ _ (c .before .before .before .before .before .loop .inv .1))
-
-add-i : tie.Need-add-i Inv-loop μ-loop
-add-i c = search needs
-
-loop-less : tie.Need-loop-less Inv-loop μ-loop
-loop-less c = search needs
 
 loop-again : tie.Need-loop-again Inv-loop μ-loop
 loop-again c =
@@ -83,20 +60,4 @@ returns c =
     revoked _ (omega (arith, whole (c .before .before))) (rw e at (c .before .loop .inv .1))
 
 pub revoke-task-spec : {M : Type 1} → statement M
-revoke-task-spec =
-    tie.close
-    (tie.spec
-    Inv-loop
-    μ-loop
-    loop-holds
-    mul-e
-    element-copy-out-e
-    is-of-requires
-    ended-requires
-    mul-t14
-    element-set-from-t
-    add-count
-    add-i
-    loop-less
-    loop-again
-    returns)
+revoke-task-spec = tie.close (tie.spec Inv-loop μ-loop · loop-holds ·⁶ (search needs) · add-count ·² (search needs) · loop-again · returns)

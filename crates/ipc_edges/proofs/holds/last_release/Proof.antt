@@ -10,7 +10,7 @@ use Rattle.ipc.specs.Counts.{raised}
 use Rattle.ipc.specs.Create.{createOf}
 use Rattle.ipc.specs.Holds.{registerOf, registeredAll, registered, releaseOf, releasedAll, released}
 use Rattle.ipc.specs.Make.{newOf}
-use Rattle.ipc.specs.Opening.{openingOf, openOf, opened, holdOf, openHold}
+use Rattle.ipc.specs.Opening.{openingOf, openOf, opened, holdOf}
 use Rattle.ipc.specs.Receive.{parkOf}
 use Rattle.ipc.specs.State.{nobody}
 use Rattle.ipc.specs.declared.answers.Parking.{Parking}
@@ -59,7 +59,7 @@ parked-requires-2 : tie.Need-parked-requires-2
 parked-requires-2 c κs = search needs
 
 returns : tie.Need-returns
-unfolding pick every found lowest lowestFree nextGeneration slotsOf orVacant readWord newOf createOf parkOf openingOf openOf opened holdOf openHold raised registerOf registeredAll registered releaseOf releasedAll released waiterCode
+unfolding pick every found lowest lowestFree nextGeneration slotsOf orVacant readWord newOf createOf parkOf openingOf openOf opened holdOf raised registerOf registeredAll registered releaseOf releasedAll released waiterCode
 returns c =
     let at10 = c .before in
     let at9 = at10 .before in

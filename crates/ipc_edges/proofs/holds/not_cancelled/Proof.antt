@@ -8,7 +8,7 @@ use Rattle.ipc.specs.Counts.{raised}
 use Rattle.ipc.specs.Create.{createOf}
 use Rattle.ipc.specs.Holds.{releaseOf, releasedAll, released}
 use Rattle.ipc.specs.Make.{newOf}
-use Rattle.ipc.specs.Opening.{openingOf, openOf, opened, holdOf, openHold}
+use Rattle.ipc.specs.Opening.{openingOf, openOf, opened, holdOf}
 use Rattle.ipc.specs.Receive.{parkOf}
 use Rattle.ipc.specs.Send.{sendOf}
 use Rattle.ipc.specs.State.{nobody}
@@ -42,7 +42,7 @@ woken-requires : tie.Need-woken-requires
 woken-requires c κs = search needs
 
 returns : tie.Need-returns
-unfolding pick found lowest lowestFree nextGeneration newOf createOf sendOf parkOf openingOf openOf opened holdOf openHold raised releaseOf releasedAll released waiterCode
+unfolding pick found lowest lowestFree nextGeneration newOf createOf sendOf parkOf openingOf openOf opened holdOf raised releaseOf releasedAll released waiterCode
 returns c =
     let at5 = c .before in
     let at4 = at5 .before in

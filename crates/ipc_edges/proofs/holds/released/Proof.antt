@@ -11,7 +11,7 @@ use Rattle.ipc.specs.Create.{createOf}
 use Rattle.ipc.specs.Holds.{registerOf, registeredAll, registered, releaseOf, releasedAll, released}
 use Rattle.ipc.specs.Make.{newOf}
 use Rattle.ipc.specs.Observe.{holdersOf}
-use Rattle.ipc.specs.Opening.{openingOf, openOf, opened, holdOf, openHold}
+use Rattle.ipc.specs.Opening.{openingOf, openOf, opened, holdOf}
 use Rattle.ipc.specs.State.{nobody}
 use Rattle.ipc.specs.declared.answers.HoldersAnswer.{HoldersAnswer}
 use Rattle.ipc.specs.declared.answers.Releasing.{Releasing}
@@ -62,7 +62,7 @@ holders-requires-2 : tie.Need-holders-requires-2
 holders-requires-2 c κs = search needs
 
 returns : tie.Need-returns
-unfolding pick every found lowest lowestFree nextGeneration slotsOf orVacant readWord newOf createOf openingOf openOf opened holdOf openHold raised registerOf registeredAll registered releaseOf releasedAll released holdersOf waiterCode
+unfolding pick every found lowest lowestFree nextGeneration slotsOf orVacant readWord newOf createOf openingOf openOf opened holdOf raised registerOf registeredAll registered releaseOf releasedAll released holdersOf waiterCode
 returns c =
     let at11 = c .before in
     let at10 = at11 .before in

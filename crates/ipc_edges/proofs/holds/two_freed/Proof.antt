@@ -9,7 +9,7 @@ use Rattle.ipc.specs.Counts.{raised}
 use Rattle.ipc.specs.Create.{createOf}
 use Rattle.ipc.specs.Holds.{registerOf, registeredAll, registered, releaseOf, releasedAll, released}
 use Rattle.ipc.specs.Make.{newOf}
-use Rattle.ipc.specs.Opening.{openingOf, openOf, opened, holdOf, openHold}
+use Rattle.ipc.specs.Opening.{openingOf, openOf, opened, holdOf}
 use Rattle.ipc.specs.Receive.{parkOf}
 use Rattle.ipc.specs.State.{nobody}
 use Rattle.ipc.specs.declared.answers.Releasing.{Releasing}
@@ -51,7 +51,7 @@ second-freed-requires : tie.Need-second-freed-requires
 second-freed-requires c κs = search needs
 
 returns : tie.Need-returns
-unfolding pick every found lowest lowestFree nextGeneration slotsOf orVacant readWord newOf createOf parkOf openingOf openOf opened holdOf openHold raised registerOf registeredAll registered releaseOf releasedAll released waiterCode
+unfolding pick every found lowest lowestFree nextGeneration slotsOf orVacant readWord newOf createOf parkOf openingOf openOf opened holdOf raised registerOf registeredAll registered releaseOf releasedAll released waiterCode
 returns c =
     let at8 = c .before in
     let at7 = at8 .before in

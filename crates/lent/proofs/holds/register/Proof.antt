@@ -3,6 +3,7 @@ use mathlib.Core.Path.{_≡_, refl, sym, _∙_}
 use Prim.Native.Nat.{ℕ}
 use native.Mathlib.Omega.{arith}
 use borrow.Author.Needs.{needs}
+use borrow.Author.Tests.{not-true, not-false}
 use Rattle.cap.specs.declared.slot.Slot.{Slot}
 use Rattle.ipc.specs.State.{mailboxAt, withMailbox, withHolders}
 use Rattle.ipc.specs.Counts.{raised}
@@ -11,7 +12,7 @@ use Rattle.ipc.specs.Holds.{registered}
 use Rattle.ipc.specs.declared.state.Table.{Table}
 use Rattle.ipc.specs.declared.opening.Opening.{Opening}
 use Rattle.ipc.specs.declared.opening.Opening.the-variants.{Opens, Shut}
-use Rattle.ipc.proofs.Openings.{shut, opens, hold-gave, hold-within, Within}
+use Rattle.ipc.proofs.Openings.{shut, opens, hold-gave, hold-vacant, hold-within, Within}
 use Rattle.lent.proofs.holds.register.Statement.{statement}
 use Rattle.lent.proofs.holds.register.Tie as tie
 
@@ -24,13 +25,16 @@ added : (t : Table) (x : Slot) (k n : ℕ) {q : Opening} → q ≡ holdOf t x �
 unfolding registered
 added t x k n g e h = opens _ _ k g e (rw h)
 
--- what `open_hold` gave is what the rule asks
-gave : (c : tie.After-open-hold) → c .open-hold .result ≡ holdOf (c .before .before .before .before .args .t1) (c .before .before .before .before .args .slot)
-gave c = hold-gave _ _ _ (c .before .before .before .before .pre) _ (c .before .before .index .ensures) (c .open-hold .ensures)
+-- what `open` gave is what the rule asks of a slot that is not vacant
+gave : (c : tie.After-open) → c .open .result ≡ holdOf (c .before .before .before .before .before .before .args .t1) (c .before .before .before .before .before .before .args .slot)
+gave c = hold-gave _ _ _ (c .before .before .before .before .before .before .pre) _ (not-false _ (c .before .before .before .before .if1 .left)) (c .before .before .index .ensures) (c .open .ensures)
 
 -- what opened is a live mailbox within the arrays
-inside : (c : tie.After-known-told) → Within (c .before .before .before .before .before .before .before .args .t1) (c .before .k .given .0 .0)
-inside c = hold-within _ _ _ (c .before .before .before .before .before .before .before .pre) (sym (gave (c .before .before .before)) ∙ c .before .k .given .1)
+inside : (c : tie.After-known-told) → Within (c .before .before .before .before .before .before .before .before .before .args .t1) (c .before .k .given .0 .0)
+inside c = hold-within _ _ _ (c .before .before .before .before .before .before .before .before .before .pre) (sym (gave (c .before .before .before)) ∙ c .before .k .given .1)
+
+returns : tie.Need-returns
+returns c = skipped _ _ (hold-vacant _ _ (not-true _ (c .if1 .taken))) refl
 
 index-requires : tie.Need-index-requires
 index-requires c κs = search needs
@@ -44,8 +48,8 @@ mul-ep c = search needs
 element-copy-out-ep : tie.Need-element-copy-out-ep
 element-copy-out-ep c = search needs
 
-open-hold-requires : tie.Need-open-hold-requires
-open-hold-requires c κs = search needs
+open-requires : tie.Need-open-requires
+open-requires c κs = search needs
 
 enum-known-k : tie.Need-enum-known-k
 enum-known-k c = search needs
@@ -53,8 +57,8 @@ enum-known-k c = search needs
 enum-told : tie.Need-enum-told
 enum-told c = search needs
 
-returns : tie.Need-returns
-returns c = skipped _ _ (gave (c .before .before)) (c .enum-told .given .1)
+returns-2 : tie.Need-returns-2
+returns-2 c = skipped _ _ (gave (c .before .before)) (c .enum-told .given .1)
 
 mul-b : tie.Need-mul-b
 mul-b c = omega (arith, inside c)
@@ -71,24 +75,25 @@ mul-b-2 c = omega (arith, inside (c .before .before))
 element-set-from-b : tie.Need-element-set-from-b
 element-set-from-b c = omega (arith, inside (c .before .before))
 
-returns-2 : tie.Need-returns-2
-returns-2 c = added _ _ _ _ (gave (c .before .before .before .before .before)) (c .before .before .before .k .given .1) (c .raised .ensures)
+returns-3 : tie.Need-returns-3
+returns-3 c = added _ _ _ _ (gave (c .before .before .before .before .before)) (c .before .before .before .k .given .1) (c .raised .ensures)
 
 pub register-spec : {M : Type 1} → statement M
 register-spec =
     tie.close
     (tie.spec
+    returns
     index-requires
     cast-i
     mul-ep
     element-copy-out-ep
-    open-hold-requires
+    open-requires
     enum-known-k
     enum-told
-    returns
+    returns-2
     mul-b
     element-copy-out-b
     raised-requires
     mul-b-2
     element-set-from-b
-    returns-2)
+    returns-3)

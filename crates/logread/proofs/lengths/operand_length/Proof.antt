@@ -1,7 +1,7 @@
 -- `logread::lengths::operand_length` meets its contract: the constant table is the rule's list, and its entries are short. Assumes nothing.
 use native.Mathlib.Omega.{arith}
 use Rattle.logread.specs.Read.{lengthOf, lengths}
-use Rattle.logread.proofs.Operands.{operands-few}
+use Rattle.logread.proofs.Few.{operands-few}
 use borrow.Author.Needs.{needs}
 use Rattle.logread.proofs.lengths.operand_length.Statement.{statement}
 use Rattle.logread.proofs.lengths.operand_length.Tie as tie

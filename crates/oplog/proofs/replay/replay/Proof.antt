@@ -8,6 +8,7 @@ use Rattle.ipc.specs.State.{Shape}
 use Rattle.ipc.proofs.Decide.{sound-of}
 use Rattle.oplog.proofs.Runs.{tail-long}
 use Rattle.oplog.proofs.Replays.{refuses, inside, counted, sound-test, too-long, ran-within, no-room, ends}
+use Rattle.oplog.proofs.Printed.{ran-inside}
 use borrow.Author.Needs.{needs}
 use Rattle.oplog.proofs.replay.replay.Statement.{statement}
 use Rattle.oplog.proofs.replay.replay.Tie as tie
@@ -67,7 +68,10 @@ returns-3 : tie.Need-returns-3
 returns-3 c = no-room (c .before .before .before .before .before .before .before .before .before .before .before .before .before .before .before .before .args .log .now) (c .before .before .before .before .before .before .before .before .before .before .before .before .before .before .before .before .args .out .now) (c .before .before .before .before .before .before .before .before .before .before .before .before .before .before .before .before .args .from) _ (c .before .before .before .before .before .before .before .before .before .before .before .sound .ensures) (c .before .before .before .before .before .before .before .before .before .before .if1 .left) (c .before .before .before .before .before .before .before .before .before .if2 .left) (c .before .before .before .before .before .before .run .result) _ (c .before .before .before .before .before .before .run .ensures .0) (c .before .before .before .before .before .before .run .ensures .1) (sym (c .before .before .before .number .ensures) ∙ c .if3 .taken)
 
 last-requires-2 : tie.Need-last-requires-2
-last-requires-2 c κs = search needs
+last-requires-2 c κs =
+    let r = c .before .before .before .before .before .before .before .run in
+    let a = c .before .before .before .before .before .before .before .before .before .before .before .before .before .before .before .before .before .args in
+    rw (r .ensures .0, r .ensures .1) (ran-inside (take (length (a .log .now) - a .from .offset) (drop (a .from .offset) (a .log .now))) (a .out .now) (a .from .done) (a .from .tables))
 
 same-length-3 : tie.Need-same-length-3
 same-length-3 c = search needs

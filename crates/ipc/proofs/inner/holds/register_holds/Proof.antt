@@ -6,7 +6,7 @@ use Prim.Native.Nat.{ℕ, _+_, _-_, _≤_, _<_}
 use native.Mathlib.Numerals.{add-one}
 use native.Mathlib.Omega.{arith}
 use borrow.Author.Needs.{needs}
-use borrow.Author.Tests.{not-false}
+use borrow.Author.Tests.{not-true, not-false}
 use denote.Ref.{now}
 use lib.ListN.{length, getD, drop, drop-of-length-le}
 use lib.Seq.{drop-cons}
@@ -24,7 +24,7 @@ use Rattle.ipc.specs.declared.state.Table.{Table}
 use Rattle.ipc.specs.declared.opening.Opening.{Opening}
 use Rattle.ipc.specs.declared.opening.Opening.the-variants.{Opens, Shut}
 use Rattle.ipc.specs.declared.answers.RegisterAnswer.the-variants.{Registered}
-use Rattle.ipc.proofs.Openings.{shut, opens, hold-gave, hold-within, Within}
+use Rattle.ipc.proofs.Openings.{shut, opens, hold-gave, hold-vacant, hold-within, Within}
 use Rattle.ipc.proofs.KeepsCalls.{registered-kept}
 use Rattle.ipc.proofs.inner.holds.register_holds.Statement.{statement}
 use Rattle.ipc.proofs.inner.holds.register_holds.Tie as tie
@@ -60,13 +60,17 @@ Inv-loop list t₀ n₀ t n = (n ≤ length list) × Registers t₀ (slotsOf lis
 abbrev μ-loop : tie.MeasureT-loop
 μ-loop list t₀ n₀ t n = length list - n
 
--- what `open_hold` gave is what the rule asks
-gave : (c : tie.After-open-hold Inv-loop μ-loop) → c .open-hold .result ≡ holdOf (c .before .before .before .before .before .before .loop .t) (c .before .before .before .before .slot-at .result)
-gave c = hold-gave _ _ _ (c .before .before .before .before .before .before .loop .inv .1 .sound) _ (c .before .before .index .ensures) (c .open-hold .ensures)
+-- what `open` gave is what the rule asks of a slot that is not vacant
+gave : (c : tie.After-open Inv-loop μ-loop) → c .open .result ≡ holdOf (c .before .before .before .before .before .before .before .before .loop .t) (c .before .before .before .before .before .before .slot-at .result)
+gave c = hold-gave _ _ _ (c .before .before .before .before .before .before .before .before .loop .inv .1 .sound) _ (not-false _ (c .before .before .before .before .if2 .left)) (c .before .before .index .ensures) (c .open .ensures)
 
 -- what opened is a live mailbox within the arrays
-inside : (c : tie.After-known-told Inv-loop μ-loop) → Within (c .before .before .before .before .before .before .before .before .before .loop .t) (c .before .k .given .0 .0)
-inside c = hold-within _ _ _ (c .before .before .before .before .before .before .before .before .before .loop .inv .1 .sound) (sym (gave (c .before .before .before)) ∙ c .before .k .given .1)
+inside : (c : tie.After-known-told Inv-loop μ-loop) → Within (c .before .before .before .before .before .before .before .before .before .before .before .loop .t) (c .before .k .given .0 .0)
+inside c = hold-within _ _ _ (c .before .before .before .before .before .before .before .before .before .before .before .loop .inv .1 .sound) (sym (gave (c .before .before .before)) ∙ c .before .k .given .1)
+
+-- the next slot is registered
+next : (c : tie.After-slot-at Inv-loop μ-loop) (t′ : Table) → t′ ≡ registered (c .before .before .loop .t) (c .slot-at .result) → Registers (c .before .before .before .before .before .before .args .t1) (slotsOf (now (c .before .before .before .before .before .before .args .list))) (c .before .before .loop .n + 1) t′
+next c t′ h = turn _ _ _ _ _ _ (rw slots-length (c .before .loop-test .taken)) (c .slot-at .ensures ∙ sym (slots-at _ _)) h (c .before .before .loop .inv .1)
 
 words-read-requires : tie.Need-words-read-requires Inv-loop μ-loop
 words-read-requires c κs = search needs
@@ -84,6 +88,12 @@ slot-at-requires c κs = search needs
 add-n : tie.Need-add-n Inv-loop μ-loop
 add-n c = search needs
 
+loop-less : tie.Need-loop-less Inv-loop μ-loop
+loop-less c = search needs
+
+loop-again : tie.Need-loop-again Inv-loop μ-loop
+loop-again c = (search needs, next (c .before .before) _ (skipped _ _ (hold-vacant _ _ (not-true _ (c .if2 .taken))) refl))
+
 index-requires : tie.Need-index-requires Inv-loop μ-loop
 index-requires c κs = search needs
 
@@ -96,8 +106,8 @@ mul-ep c = search needs
 element-copy-out-ep : tie.Need-element-copy-out-ep Inv-loop μ-loop
 element-copy-out-ep c = search needs
 
-open-hold-requires : tie.Need-open-hold-requires Inv-loop μ-loop
-open-hold-requires c κs = search needs
+open-requires : tie.Need-open-requires Inv-loop μ-loop
+open-requires c κs = search needs
 
 enum-known-k : tie.Need-enum-known-k Inv-loop μ-loop
 enum-known-k c = search needs
@@ -105,11 +115,11 @@ enum-known-k c = search needs
 enum-told : tie.Need-enum-told Inv-loop μ-loop
 enum-told c = search needs
 
-loop-less : tie.Need-loop-less Inv-loop μ-loop
-loop-less c = search needs
+loop-less-2 : tie.Need-loop-less-2 Inv-loop μ-loop
+loop-less-2 c = search needs
 
-loop-again : tie.Need-loop-again Inv-loop μ-loop
-loop-again c = (search needs, turn _ _ _ _ _ (c .before .before .before .before .before .before .slot-at .result) (rw slots-length (c .before .before .before .before .before .before .before .loop-test .taken)) (c .before .before .before .before .before .before .slot-at .ensures ∙ sym (slots-at _ _)) (skipped _ _ (gave (c .before .before)) (c .enum-told .given .1)) (c .before .before .before .before .before .before .before .before .loop .inv .1))
+loop-again-2 : tie.Need-loop-again-2 Inv-loop μ-loop
+loop-again-2 c = (search needs, next (c .before .before .before .before .before .before .before .before) _ (skipped _ _ (gave (c .before .before)) (c .enum-told .given .1)))
 
 mul-more : tie.Need-mul-more Inv-loop μ-loop
 mul-more c = omega (arith, inside c)
@@ -126,13 +136,12 @@ mul-t14 c = omega (arith, inside (c .before .before))
 element-set-from-t : tie.Need-element-set-from-t Inv-loop μ-loop
 element-set-from-t c = omega (arith, inside (c .before .before))
 
-loop-less-2 : tie.Need-loop-less-2 Inv-loop μ-loop
-loop-less-2 c = search needs
+loop-less-3 : tie.Need-loop-less-3 Inv-loop μ-loop
+loop-less-3 c = search needs
 
-loop-again-2 : tie.Need-loop-again-2 Inv-loop μ-loop
-loop-again-2 c =
-    let k = c .before .before .before .k .given in
-    (search needs, turn _ _ _ _ _ (c .before .before .before .before .before .before .before .before .before .slot-at .result) (rw slots-length (c .before .before .before .before .before .before .before .before .before .before .loop-test .taken)) (c .before .before .before .before .before .before .before .before .before .slot-at .ensures ∙ sym (slots-at _ _)) (added _ _ _ _ (gave (c .before .before .before .before .before)) (k .1) (c .more .ensures)) (c .before .before .before .before .before .before .before .before .before .before .before .loop .inv .1))
+loop-again-3 : tie.Need-loop-again-3 Inv-loop μ-loop
+loop-again-3 c =
+    (search needs, next (c .before .before .before .before .before .before .before .before .before .before .before) _ (added _ _ _ _ (gave (c .before .before .before .before .before)) (c .before .before .before .k .given .1) (c .more .ensures)))
 
 returns-2 : tie.Need-returns-2 Inv-loop μ-loop
 unfolding registerOf
@@ -152,20 +161,22 @@ register-holds-spec =
     loop-holds
     slot-at-requires
     add-n
+    loop-less
+    loop-again
     index-requires
     cast-i
     mul-ep
     element-copy-out-ep
-    open-hold-requires
+    open-requires
     enum-known-k
     enum-told
-    loop-less
-    loop-again
+    loop-less-2
+    loop-again-2
     mul-more
     element-copy-out-more
     more-requires
     mul-t14
     element-set-from-t
-    loop-less-2
-    loop-again-2
+    loop-less-3
+    loop-again-3
     returns-2)

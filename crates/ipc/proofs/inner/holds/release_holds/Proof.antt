@@ -7,6 +7,7 @@ use Prim.Native.Nat.{ℕ, suc, _+_, _-_, _≤_, _<_}
 use native.Mathlib.Numerals.{add-one}
 use native.Mathlib.Omega.{arith}
 use borrow.Author.Needs.{needs}
+use borrow.Author.Tests.{not-true, not-false}
 use lib.ListN.{length, getD, set, drop, drop-of-length-le, length-append}
 use lib.Seq.{drop-cons}
 use Rattle.laws.proofs.Cases.{yes, no}
@@ -24,7 +25,7 @@ use Rattle.ipc.specs.declared.opening.Opening.{Opening}
 use Rattle.ipc.specs.declared.opening.Opening.the-variants.{Opens, Shut}
 use Rattle.ipc.specs.declared.answers.Releasing.{Releasing}
 use Rattle.ipc.specs.declared.answers.ReleaseAnswer.the-variants.{Released}
-use Rattle.ipc.proofs.Openings.{shut, opens, hold-gave, hold-within, Within}
+use Rattle.ipc.proofs.Openings.{shut, opens, hold-gave, hold-vacant, hold-within, Within}
 use Rattle.ipc.proofs.KeepsCalls.{released-kept}
 use Rattle.ipc.proofs.inner.holds.release_holds.Statement.{statement}
 use Rattle.ipc.proofs.inner.holds.release_holds.Tie as tie
@@ -99,13 +100,19 @@ abbrev μ-loop : tie.MeasureT-loop
 four : (c : tie.Start Inv-loop μ-loop) → length (c .args .t2) ≡ 4
 four c = search (needs, unmapped)
 
--- what `open_hold` gave is what the rule asks
-gave : (c : tie.After-open-hold Inv-loop μ-loop) → c .open-hold .result ≡ holdOf (c .before .before .before .before .before .before .loop .t) (getD (c .before .before .before .before .before .before .before .args .t2) (c .before .before .before .before .before .before .loop .n) vacant)
-gave c = hold-gave _ _ _ (c .before .before .before .before .before .before .loop .inv .2 .sound) _ (c .before .before .index .ensures) (c .open-hold .ensures)
+-- the slot of this turn, and one that is not vacant: what `open` gave is what the rule asks
+abbrev slot-of : tie.In-loop Inv-loop μ-loop → Slot
+slot-of c = getD (c .before .before .args .t2) (c .before .loop .n) vacant
 
--- what opened is a live mailbox within the arrays, and the waiters so far are fewer than four
-inside : (c : tie.After-known-told Inv-loop μ-loop) → Within (c .before .before .before .before .before .before .before .before .before .loop .t) (c .before .k .given .0 .0)
-inside c = hold-within _ _ _ (c .before .before .before .before .before .before .before .before .before .loop .inv .2 .sound) (sym (gave (c .before .before .before)) ∙ c .before .k .given .1)
+gave : (c : tie.After-open Inv-loop μ-loop) → c .open .result ≡ holdOf (c .before .before .before .before .before .before .before .before .loop .t) (slot-of (c .before .before .before .before .before .before .before))
+gave c = hold-gave _ _ _ (c .before .before .before .before .before .before .before .before .loop .inv .2 .sound) _ (not-false _ (c .before .before .before .before .if1 .left)) (c .before .before .index .ensures) (c .open .ensures)
+
+-- what opened is a live mailbox within the arrays, a slot is left, and the waiters so far are fewer than four
+inside : (c : tie.After-known-told Inv-loop μ-loop) → Within (c .before .before .before .before .before .before .before .before .before .before .before .loop .t) (c .before .k .given .0 .0)
+inside c = hold-within _ _ _ (c .before .before .before .before .before .before .before .before .before .before .before .loop .inv .2 .sound) (sym (gave (c .before .before .before)) ∙ c .before .k .given .1)
+
+left : (c : tie.In-loop Inv-loop μ-loop) → c .before .loop .n < length (c .before .before .args .t2)
+left c = let f = c .before .loop .inv .1 in let l : c .before .loop .n < 4 = c .loop-test .taken in omega arith
 
 room : (c : tie.In-loop Inv-loop μ-loop) → c .before .loop .woken < 4
 room c = let r = c .before .loop .inv .2 in let m = r .many in let f = r .few in omega arith
@@ -122,6 +129,14 @@ array-copy-out-slot c = search needs
 add-n : tie.Need-add-n Inv-loop μ-loop
 add-n c = search needs
 
+loop-less : tie.Need-loop-less Inv-loop μ-loop
+loop-less c = search needs
+
+loop-again : tie.Need-loop-again Inv-loop μ-loop
+loop-again c =
+    let i = c .before .before .before .before .loop .inv in
+    (search needs, i .1, skipped (i .2) _ (left (c .before .before .before)) refl (hold-vacant _ _ (not-true _ (c .if1 .taken))) refl)
+
 index-requires : tie.Need-index-requires Inv-loop μ-loop
 index-requires c κs = search needs
 
@@ -134,8 +149,8 @@ mul-ep c = search needs
 element-copy-out-ep : tie.Need-element-copy-out-ep Inv-loop μ-loop
 element-copy-out-ep c = search needs
 
-open-hold-requires : tie.Need-open-hold-requires Inv-loop μ-loop
-open-hold-requires c κs = search needs
+open-requires : tie.Need-open-requires Inv-loop μ-loop
+open-requires c κs = search needs
 
 enum-known-k : tie.Need-enum-known-k Inv-loop μ-loop
 enum-known-k c = search needs
@@ -143,15 +158,13 @@ enum-known-k c = search needs
 enum-told : tie.Need-enum-told Inv-loop μ-loop
 enum-told c = search needs
 
-loop-less : tie.Need-loop-less Inv-loop μ-loop
-loop-less c = search needs
+loop-less-2 : tie.Need-loop-less-2 Inv-loop μ-loop
+loop-less-2 c = search needs
 
-loop-again : tie.Need-loop-again Inv-loop μ-loop
-loop-again c =
-    let i = c .before .before .before .before .before .before .before .before .loop .inv in
-    let l : c .before .before .before .before .before .before .before .before .loop .n < 4 = c .before .before .before .before .before .before .before .loop-test .taken in
-    let f = i .1 in
-    (search needs, f, skipped (i .2) _ (omega arith) refl (gave (c .before .before)) (c .enum-told .given .1))
+loop-again-2 : tie.Need-loop-again-2 Inv-loop μ-loop
+loop-again-2 c =
+    let i = c .before .before .before .before .before .before .before .before .before .before .loop .inv in
+    (search needs, i .1, skipped (i .2) _ (left (c .before .before .before .before .before .before .before .before .before)) refl (gave (c .before .before)) (c .enum-told .given .1))
 
 mul-fewer : tie.Need-mul-fewer Inv-loop μ-loop
 mul-fewer c = omega (arith, inside c)
@@ -166,13 +179,13 @@ reaps-requires : tie.Need-reaps-requires Inv-loop μ-loop
 reaps-requires c κs = search needs
 
 mul-waiters : tie.Need-mul-waiters Inv-loop μ-loop
-mul-waiters c = omega (arith, room (c .before .before .before .before .before .before .before .before .before .before .before .before .before))
+mul-waiters c = omega (arith, room (c .before .before .before .before .before .before .before .before .before .before .before .before .before .before .before))
 
 array-set-from-waiters : tie.Need-array-set-from-waiters Inv-loop μ-loop
-array-set-from-waiters c = room (c .before .before .before .before .before .before .before .before .before .before .before .before .before)
+array-set-from-waiters c = room (c .before .before .before .before .before .before .before .before .before .before .before .before .before .before .before)
 
 add-woken : tie.Need-add-woken Inv-loop μ-loop
-add-woken c = omega (arith, room (c .before .before .before .before .before .before .before .before .before .before .before .before .before))
+add-woken c = omega (arith, room (c .before .before .before .before .before .before .before .before .before .before .before .before .before .before .before))
 
 mul-b : tie.Need-mul-b Inv-loop μ-loop
 mul-b c = omega (arith, inside (c .before .before .before .before .before))
@@ -180,15 +193,14 @@ mul-b c = omega (arith, inside (c .before .before .before .before .before))
 element-set-from-b : tie.Need-element-set-from-b Inv-loop μ-loop
 element-set-from-b c = omega (arith, inside (c .before .before .before .before .before))
 
-loop-less-2 : tie.Need-loop-less-2 Inv-loop μ-loop
-loop-less-2 c = search needs
+loop-less-3 : tie.Need-loop-less-3 Inv-loop μ-loop
+loop-less-3 c = search needs
 
-loop-again-2 : tie.Need-loop-again-2 Inv-loop μ-loop
-loop-again-2 c =
-    let i = c .before .before .before .before .before .before .before .before .before .before .before .before .before .before .loop .inv in
-    let l : c .before .before .before .before .before .before .before .before .before .before .before .before .before .before .loop .n < 4 = c .before .before .before .before .before .before .before .before .before .before .before .before .before .loop-test .taken in
-    let f = i .1 in
-    (search needs, f, reaped (i .2) _ (omega arith) refl _ _ (gave (c .before .before .before .before .before .before .before .before)) (c .before .before .before .before .before .before .k .given .1) (c .before .before .before .fewer .ensures) (sym (c .before .before .reaps .ensures) ∙ c .before .if1 .taken) (room (c .before .before .before .before .before .before .before .before .before .before .before .before .before)))
+loop-again-3 : tie.Need-loop-again-3 Inv-loop μ-loop
+loop-again-3 c =
+    let turn-at = c .before .before .before .before .before .before .before .before .before .before .before .before .before .before .before in
+    let i = turn-at .before .loop .inv in
+    (search needs, i .1, reaped (i .2) _ (left turn-at) refl _ _ (gave (c .before .before .before .before .before .before .before .before)) (c .before .before .before .before .before .before .k .given .1) (c .before .before .before .fewer .ensures) (sym (c .before .before .reaps .ensures) ∙ c .before .if2 .taken) (room turn-at))
 
 mul-b-2 : tie.Need-mul-b-2 Inv-loop μ-loop
 mul-b-2 c = omega (arith, inside (c .before .before .before .before))
@@ -196,15 +208,14 @@ mul-b-2 c = omega (arith, inside (c .before .before .before .before))
 element-set-from-b-2 : tie.Need-element-set-from-b-2 Inv-loop μ-loop
 element-set-from-b-2 c = omega (arith, inside (c .before .before .before .before))
 
-loop-less-3 : tie.Need-loop-less-3 Inv-loop μ-loop
-loop-less-3 c = search needs
+loop-less-4 : tie.Need-loop-less-4 Inv-loop μ-loop
+loop-less-4 c = search needs
 
-loop-again-3 : tie.Need-loop-again-3 Inv-loop μ-loop
-loop-again-3 c =
-    let i = c .before .before .before .before .before .before .before .before .before .before .before .before .before .loop .inv in
-    let l : c .before .before .before .before .before .before .before .before .before .before .before .before .before .loop .n < 4 = c .before .before .before .before .before .before .before .before .before .before .before .before .loop-test .taken in
-    let f = i .1 in
-    (search needs, f, kept (i .2) _ (omega arith) refl _ _ (gave (c .before .before .before .before .before .before .before)) (c .before .before .before .before .before .k .given .1) (c .before .before .fewer .ensures) (sym (c .before .reaps .ensures) ∙ c .if1 .left))
+loop-again-4 : tie.Need-loop-again-4 Inv-loop μ-loop
+loop-again-4 c =
+    let turn-at = c .before .before .before .before .before .before .before .before .before .before .before .before .before .before in
+    let i = turn-at .before .loop .inv in
+    (search needs, i .1, kept (i .2) _ (left turn-at) refl _ _ (gave (c .before .before .before .before .before .before .before)) (c .before .before .before .before .before .k .given .1) (c .before .before .fewer .ensures) (sym (c .before .reaps .ensures) ∙ c .if2 .left))
 
 returns : tie.Need-returns Inv-loop μ-loop
 returns c = let i = c .before .loop .inv in let f = i .1 in let l : 4 ≤ c .before .loop .n = c .loop-test .left in done _ _ _ (omega arith) (i .2)
@@ -219,15 +230,17 @@ release-holds-spec =
     mul-slot
     array-copy-out-slot
     add-n
+    loop-less
+    loop-again
     index-requires
     cast-i
     mul-ep
     element-copy-out-ep
-    open-hold-requires
+    open-requires
     enum-known-k
     enum-told
-    loop-less
-    loop-again
+    loop-less-2
+    loop-again-2
     mul-fewer
     element-copy-out-fewer
     fewer-requires
@@ -237,10 +250,10 @@ release-holds-spec =
     add-woken
     mul-b
     element-set-from-b
-    loop-less-2
-    loop-again-2
-    mul-b-2
-    element-set-from-b-2
     loop-less-3
     loop-again-3
+    mul-b-2
+    element-set-from-b-2
+    loop-less-4
+    loop-again-4
     returns)

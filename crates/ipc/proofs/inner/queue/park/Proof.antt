@@ -1,11 +1,13 @@
 -- `ipc::inner::queue::park` meets its contract. As for `send`. Assumes nothing.
 use mathlib.Core.Path.{_≡_, sym, _∙_}
+use mathlib.Core.Bool.{true, false}
 use native.Mathlib.Omega.{arith}
 use borrow.Author.Tests.{not-true}
 use Rattle.laws.proofs.Cases.{cases, not-both}
 use Rattle.cap.specs.Rights.{receiveRight}
+use Rattle.ipc.specs.State.{mailboxAt}
 use Rattle.ipc.specs.Opening.{openingOf}
-use Rattle.ipc.specs.Receive.{parkOf}
+use Rattle.ipc.specs.Receive.{otherWaits, parkOf}
 use Rattle.ipc.proofs.Openings.{openings, open-gave, opens-within, Within}
 use borrow.Author.Needs.{needs}
 use Rattle.ipc.proofs.inner.queue.park.Statement.{statement}
@@ -18,6 +20,13 @@ gave c = open-gave _ _ _ (c .before .before .before .pre) _ _ (c .before .before
 -- what opened is a live mailbox within the arrays
 inside : (c : tie.After-known-told) → Within (c .before .before .before .before .before .before .args .t1) (c .before .k .given .0 .0)
 inside c = opens-within _ _ _ _ (c .before .before .before .before .before .before .pre) (sym (gave (c .before .before .before)) ∙ c .before .k .given .1)
+
+-- what `other_waits` said of the mailbox's waiter
+busy : (c : tie.Then4) → otherWaits (mailboxAt (c .before .before .before .before .before .before .before .before .before .before .before .before .before .before .before .before .args .t1) (c .before .before .before .before .before .before .before .before .before .before .before .k .given .0 .0) .waiter) (c .before .before .before .before .before .before .before .before .before .before .before .before .before .before .before .before .args .me) ≡ true
+busy c = sym (c .before .other-waits .ensures) ∙ c .if4 .taken
+
+free : (c : tie.Else4) → otherWaits (mailboxAt (c .before .before .before .before .before .before .before .before .before .before .before .before .before .before .before .before .args .t1) (c .before .before .before .before .before .before .before .before .before .before .before .k .given .0 .0) .waiter) (c .before .before .before .before .before .before .before .before .before .before .before .before .before .before .before .before .args .me) ≡ false
+free c = sym (c .before .other-waits .ensures) ∙ c .if4 .left
 
 index-requires : tie.Need-index-requires
 index-requires c κs = search needs
@@ -74,8 +83,8 @@ element-copy-out-msg c = omega (arith, inside (c .before .before .before .before
 drained-requires : tie.Need-drained-requires
 drained-requires c κs = omega (arith, inside (c .before .before .before .before .before .before .before))
 
-mul-t33 : tie.Need-mul-t33
-mul-t33 c = omega (arith, inside (c .before .before .before .before .before .before .before .before))
+mul-t32 : tie.Need-mul-t32
+mul-t32 c = omega (arith, inside (c .before .before .before .before .before .before .before .before))
 
 element-set-from-t : tie.Need-element-set-from-t
 element-set-from-t c = omega (arith, inside (c .before .before .before .before .before .before .before .before))
@@ -88,22 +97,25 @@ returns-4 : tie.Need-returns-4
 unfolding parkOf
 returns-4 c = search (cases, openings, gave)
 
+other-waits-requires : tie.Need-other-waits-requires
+other-waits-requires c κs = search needs
+
 raised-requires-3 : tie.Need-raised-requires-3
 raised-requires-3 c κs = search needs
 
 returns-5 : tie.Need-returns-5
 unfolding parkOf
-returns-5 c = rw (c .before .raised3 .ensures) (search (cases, openings, gave) depth 12)
+returns-5 c = rw (c .before .raised3 .ensures) (search (cases, openings, gave, busy) depth 12)
 
 mul-b-2 : tie.Need-mul-b-2
-mul-b-2 c = omega (arith, inside (c .before .before .before .before .before .before .before .before .before .before .before .before .before .before .before))
+mul-b-2 c = omega (arith, inside (c .before .before .before .before .before .before .before .before .before .before))
 
 element-set-from-b : tie.Need-element-set-from-b
-element-set-from-b c = omega (arith, inside (c .before .before .before .before .before .before .before .before .before .before .before .before .before .before .before))
+element-set-from-b c = omega (arith, inside (c .before .before .before .before .before .before .before .before .before .before))
 
 returns-6 : tie.Need-returns-6
 unfolding parkOf
-returns-6 c = search (cases, openings, gave) depth 12
+returns-6 c = search (cases, openings, gave, free) depth 12
 
 pub park-spec : {M : Type 1} → statement M
 park-spec =
@@ -127,10 +139,11 @@ park-spec =
     mul-msg-2
     element-copy-out-msg
     drained-requires
-    mul-t33
+    mul-t32
     element-set-from-t
     returns-3
     returns-4
+    other-waits-requires
     raised-requires-3
     returns-5
     mul-b-2

@@ -1,3 +1,4 @@
+-- `logread::operands::operands_ok` meets its contract: one test of a list stands for the two of the rule. Assumes nothing.
 use mathlib.Core.Path.{_≡_, refl}
 use mathlib.Core.Bool.{Bool, true, false, _||_}
 use mathlib.Core.List.{List}
@@ -6,11 +7,11 @@ use lib.Dec.{eqb}
 use borrow.Author.Tests.{ne-eqb}
 use Rattle.laws.specs.Pick.{pick}
 use Rattle.laws.proofs.Cases.{cases, no, not-both}
 use Rattle.logread.specs.Lists.{listOk}
-use Rattle.oplog.specs.Step.{operandsOk}
+use Rattle.logread.specs.Operands.{create, startsWithList, listAfterRow, operandsOk}
 use borrow.Author.Needs.{needs}
-use Rattle.oplog.proofs.inner.operands_ok.Statement.{statement}
-use Rattle.oplog.proofs.inner.operands_ok.Tie as tie
+use Rattle.logread.proofs.operands.operands_ok.Statement.{statement}
+use Rattle.logread.proofs.operands.operands_ok.Tie as tie
 
 -- f is the test of a list from a place on, x says that it starts at 3, y at 4
 by-list : (x y : Bool) (f : ℕ → Bool) → x || y ≡ true → f (pick x 3 4) ≡ pick x (f 3) (pick y (f 4) true)
@@ -25,12 +26,12 @@ no-list true y a b e = absurd (not-both true refl e)
 no-list false true a b e = absurd (not-both true refl e)
 no-list false false a b e = refl
 
-listed : (op : ℕ) (log : List ℕ) → eqb op 1 ≡ false → (eqb op 7 || eqb op 8) || (eqb op 15 || eqb op 24) ≡ true
-    → listOk log (pick (eqb op 7 || eqb op 8) 3 4) ≡ operandsOk op log
+listed : (op : ℕ) (log : List ℕ) → eqb op create ≡ false → startsWithList op || listAfterRow op ≡ true
+    → listOk log (pick (startsWithList op) 3 4) ≡ operandsOk op log
 unfolding operandsOk
 listed op log n e = no _ n (by-list _ _ (listOk log) e)
 
-others : (op : ℕ) (log : List ℕ) → eqb op 1 ≡ false → (eqb op 7 || eqb op 8) || (eqb op 15 || eqb op 24) ≡ false → true ≡ operandsOk op log
+others : (op : ℕ) (log : List ℕ) → eqb op create ≡ false → startsWithList op || listAfterRow op ≡ false → true ≡ operandsOk op log
 unfolding operandsOk
 others op log n e = no _ n (no-list _ _ _ _ e)
 

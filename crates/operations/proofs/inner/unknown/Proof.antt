@@ -1,8 +1,8 @@
--- `operations::unknown` meets its contract. Assumes nothing.
+-- `operations::inner::unknown` meets its contract. Assumes nothing.
 use mathlib.Core.Path.{refl}
 use Rattle.operations.specs.Values.{padded}
-use Rattle.operations.proofs.unknown.Statement.{statement}
-use Rattle.operations.proofs.unknown.Tie as tie
+use Rattle.operations.proofs.inner.unknown.Statement.{statement}
+use Rattle.operations.proofs.inner.unknown.Tie as tie
 
 returns : tie.Need-returns
 unfolding padded

@@ -1,4 +1,4 @@
--- `operations::apply` meets its contract. Assumes nothing.
+-- `operations::inner::apply` meets its contract. Assumes nothing.
 use mathlib.Core.Path.{_≡_, ap, _∙_, sym}
 use mathlib.Core.List.{List}
 use Prim.Native.Nat.{ℕ, _≤_}
@@ -9,8 +9,8 @@ use Rattle.operations.specs.declared.Tables.{Tables}
 use Rattle.operations.specs.declared.Outcome.{Outcome}
 use Rattle.operations.proofs.Matches.{past}
 use borrow.Author.Needs.{needs}
-use Rattle.operations.proofs.apply.Statement.{statement}
-use Rattle.operations.proofs.apply.Tie as tie
+use Rattle.operations.proofs.inner.apply.Statement.{statement}
+use Rattle.operations.proofs.inner.apply.Tie as tie
 
 no-operation : (op : ℕ) (log : List ℕ) (t : Tables) {r : Outcome} → 28 ≤ op → r ≡ packed (unknownDone t) → r ≡ packed (applyOf op log t)
 unfolding applyOf

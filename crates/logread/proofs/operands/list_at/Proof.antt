@@ -1,7 +1,7 @@
--- `oplog::inner::list_at` meets its contract. Assumes nothing.
+-- `logread::operands::list_at` meets its contract. Assumes nothing.
 use Rattle.laws.proofs.Cases.{cases}
-use Rattle.oplog.proofs.inner.list_at.Statement.{statement}
-use Rattle.oplog.proofs.inner.list_at.Tie as tie
+use Rattle.logread.proofs.operands.list_at.Statement.{statement}
+use Rattle.logread.proofs.operands.list_at.Tie as tie
 
 returns : tie.Need-returns
 returns c = search cases

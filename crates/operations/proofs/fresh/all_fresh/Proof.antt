@@ -1,8 +1,8 @@
--- `operations::channels::all_fresh` meets its contract. Assumes nothing.
+-- `operations::all_fresh` meets its contract. Assumes nothing.
 use mathlib.Core.Path.{refl}
 use borrow.Author.Needs.{needs}
-use Rattle.operations.proofs.channels.all_fresh.Statement.{statement}
-use Rattle.operations.proofs.channels.all_fresh.Tie as tie
+use Rattle.operations.proofs.fresh.all_fresh.Statement.{statement}
+use Rattle.operations.proofs.fresh.all_fresh.Tie as tie
 
 new-requires : tie.Need-new-requires
 new-requires c κs = search needs

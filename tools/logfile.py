@@ -1,0 +1,57 @@
+"""A log as a file has it: its bytes, or document 01's hex. docs/LOG.md has the format."""
+import codecs
+import os
+import re
+
+STANDARD_INPUT = 9  # as ./replay hands it over
+LONGEST = 65536  # bytes of a log
+LONGEST_TEXT = 4194304  # bytes of hex, blanks and comments among them
+MARKS = {codecs.BOM_UTF8: "utf-8", codecs.BOM_UTF16_LE: "utf-16-le", codecs.BOM_UTF16_BE: "utf-16-be"}
+
+
+def read(path):
+    """The log, or as much of it as shows that it is too long, and what it was read as; - is standard input."""
+    file = STANDARD_INPUT if path == "-" else os.open(path, os.O_RDONLY)
+    try:
+        content = taken(file, LONGEST + 1)
+        if begins_as_hex(content) is False:
+            return content, "bytes"
+        content += taken(file, LONGEST_TEXT + 1 - len(content))
+    finally:
+        os.close(file)
+    if not begins_as_hex(content):
+        return content[: LONGEST + 1], "bytes"
+    if len(content) > LONGEST_TEXT:
+        raise ValueError(f"hex of more than {LONGEST_TEXT:,} bytes is not read")
+    return unhex(content)[: LONGEST + 1], "hex"
+
+
+def taken(file, most):
+    """The file's next bytes, so many at most."""
+    content = b""
+    while len(content) < most and (part := os.read(file, most - len(content))):
+        content += part
+    return content
+
+
+def begins_as_hex(content):
+    """Whether the first byte that is no blank is a hex digit or a #; None where all are blanks."""
+    start = text(content).lstrip(" \t\r\n\v\f")[:1]
+    return start in "#0123456789abcdefABCDEF" if start else None
+
+
+def text(content):
+    """Bytes as text, without a byte-order mark."""
+    mark = next(filter(content.startswith, MARKS), b"")
+    return content[len(mark) :].decode(MARKS.get(mark, "utf-8"), "replace")
+
+
+def unhex(content):
+    """Hex digits as bytes; blanks and what follows a # are skipped."""
+    log = bytearray()
+    for number, line in enumerate(re.split("\r\n|\r|\n", text(content)), 1):
+        try:
+            log += bytes.fromhex("".join(line.split("#")[0].split()))
+        except ValueError:
+            raise ValueError(f"line {number} is no hex, two digits a byte: {line.strip()[:60]!a}") from None
+    return bytes(log)
