@@ -11,8 +11,8 @@ PATIENCE = 2  # seconds
 # What a crate takes on a machine with two processors, where it is more than a few seconds.
 HALF = "about half a minute"
 TAKES = {
-    "line": HALF, "capslots": HALF, "logread": HALF, "ipc": "about a minute and a half", "operations": "about a minute",
-    "oplog": HALF, "player": HALF, "replay": HALF,
+    "line": HALF, "capslots": HALF, "logread": HALF, "ipc_sound": HALF, "ipc_queue": "about a minute", "ipc_holds": HALF,
+    "ipc_life": HALF, "joined": HALF, "operations": "about a minute and a half", "oplog": "about a minute", "player": HALF, "replay": HALF,
 }  # fmt: skip
 
 

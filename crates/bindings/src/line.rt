@@ -60,15 +60,11 @@ fn figures(answer: BindAnswer) -> [u64; 4] {
     }
 }
 
-// Both are vacant, or both hold the same id.
 fn same_place(a: Slot, b: Slot) -> bool {
-    if !(a.present & b.present) {
-        return a.present == b.present;
-    }
-    a.id.raw == b.id.raw
+    (a.present == b.present) & (a.id.raw == b.id.raw)
 }
 
-// Whether two bindings are one: answers, values and places.
+// Whether two bindings are one, field by field.
 pub(crate) fn same(a: Binding, b: Binding) -> bool {
     let one = a.answer;
     let other = b.answer;

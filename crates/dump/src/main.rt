@@ -3,14 +3,14 @@
 ghost use Prim.Native.Nat.{_<_};
 use capslots::Row;
 use capslots::Table as Rows;
-use ipc::state::Endpoint;
-use ipc::state::MAX_DEPTH;
-use ipc::state::MAX_ENDPOINTS;
-use ipc::state::MAX_MAILBOXES;
-use ipc::state::Mailbox;
-use ipc::state::Refusals;
-use ipc::state::Sizes;
-use ipc::state::Table as Channels;
+use ipc_rules::state::Endpoint;
+use ipc_rules::state::MAX_DEPTH;
+use ipc_rules::state::MAX_ENDPOINTS;
+use ipc_rules::state::MAX_MAILBOXES;
+use ipc_rules::state::Mailbox;
+use ipc_rules::state::Refusals;
+use ipc_rules::state::Sizes;
+use ipc_rules::state::Table as Channels;
 use irqcap::Table as Irqs;
 use mint::Entry;
 use show::field;
@@ -31,11 +31,11 @@ fn head(sizes: Sizes, next: u16, counts: Refusals) -> bool {
 
 fn mailbox(i: usize, b: Mailbox) -> bool {
     field_of(b"mailbox", i, b" live", show::flag(b.live))
-        & field_of(b"mailbox", i, b" ephemeral", show::flag(b.auto_reap))
+        & field_of(b"mailbox", i, b" ephemeral", show::flag(b.ephemeral))
         & field_of(b"mailbox", i, b" holds", b.send_holders as u64)
-        & field_of(b"mailbox", i, b" head", b.head as u64)
-        & field_of(b"mailbox", i, b" tail", b.tail as u64)
-        & field_of(b"mailbox", i, b" length", b.len as u64)
+        & field_of(b"mailbox", i, b" head", b.ring.head as u64)
+        & field_of(b"mailbox", i, b" tail", b.ring.tail as u64)
+        & field_of(b"mailbox", i, b" length", b.ring.len as u64)
         & show::waiter(i, b.waiter)
 }
 
@@ -75,7 +75,7 @@ fn places(i: usize, t: Channels) -> bool
 }
 
 fn channels(t: Channels) -> bool {
-    let mut whole = head(t.sizes, t.next_gen, t.refusals);
+    let mut whole = head(t.sizes, t.counters.next_gen, t.counters.refusals);
     let mut k = 0;
     while k < MAX_MAILBOXES {
         if k < t.sizes.mailboxes {

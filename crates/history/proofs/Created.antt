@@ -8,9 +8,9 @@ use Prim.Native.Nat.{ℕ, _+_, _≤_, _<_}
 use native.Mathlib.Omega.{arith}
 use lib.ListN.{length, length-append}
 use Rattle.laws.proofs.Bools.{either, below?}
-use Rattle.ipc.specs.Views.{queueOf, ephemeralOf}
-use Rattle.ipc.specs.declared.state.Channel.{Channel}
-use Rattle.ipc.specs.declared.state.Message.{Message}
+use Rattle.ipc_rules.specs.Views.{queueOf, ephemeralOf}
+use Rattle.ipc_rules.specs.declared.state.Channel.{Channel}
+use Rattle.ipc_rules.specs.declared.state.Message.{Message}
 use Rattle.history.specs.Calls.{Call, create, created, answer}
 use Rattle.history.specs.World.{World, step, run, Reached, fresh, then}
 use Rattle.history.specs.Channels.{LivesIn}

@@ -18,7 +18,7 @@ use Rattle.mint.specs.Generation.{nextGeneration}
 use Rattle.mint.specs.Entries.{mintWith}
 use Rattle.irqcap.specs.Table.{mintOf}
 use Rattle.manifest.specs.Bind as binds
-use Rattle.ipc.specs.Create.{createOf}
+use Rattle.ipc_rules.specs.Create.{createOf}
 use Rattle.history.specs.Edges.{Edge, Agree, done, row, edges, classValues, irqMints, EdgesAgree}
 
 -- ---- the test

@@ -10,16 +10,17 @@ use Rattle.laws.specs.Place.{found, lowest, lowestFree}
 use Rattle.cap.specs.Id.{idOf}
 use Rattle.cap.specs.declared.CapId.{CapId}
 use Rattle.mint.specs.Generation.{nextGeneration}
-use Rattle.ipc.specs.State.{freshMessage}
-use Rattle.ipc.specs.Make.{sizesOf}
-use Rattle.ipc.specs.Create.{createOf}
-use Rattle.ipc.specs.Send.{sendOf}
-use Rattle.ipc.specs.Receive.{recvOf, parkOf}
-use Rattle.ipc.specs.Revoke.{killed, wiped, revokeOf}
-use Rattle.ipc.specs.Opening.{openOf, openAny, openingOf, anyRightOf, opened}
-use Rattle.ipc.specs.Views.{ringFrom, queueOf}
-use Rattle.ipc.specs.declared.state.Message.{Message}
-use Rattle.ipc.specs.declared.state.TaskId.{TaskId}
+use Rattle.ipc_rules.specs.State.{freshMessage}
+use Rattle.ipc_rules.specs.Make.{sizesOf}
+use Rattle.ipc_rules.specs.Create.{createOf}
+use Rattle.ipc_rules.specs.Send.{sendOf}
+use Rattle.ipc_rules.specs.Receive.{recvOf, parkOf}
+use Rattle.ipc_rules.specs.Revoke.{killed, wiped, revokeOf}
+use Rattle.ipc_rules.specs.Opening.{openOf, openAny, openingOf, anyRightOf, opened}
+use Rattle.ring.specs.Ring.{ringFrom}
+use Rattle.ipc_rules.specs.Views.{queueOf}
+use Rattle.ipc_rules.specs.declared.state.Message.{Message}
+use Rattle.ipc_rules.specs.declared.state.TaskId.{TaskId}
 use Rattle.history.specs.Calls.{Call, create, send, receive, park, revoke, answer, after}
 use Rattle.history.specs.World.{World, but, ifCreated, onCreation, step, run, start, Reached, fresh}
 use Rattle.history.specs.Channels.{leads}

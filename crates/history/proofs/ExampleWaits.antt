@@ -12,24 +12,24 @@ use Rattle.cap.specs.Id.{idOf}
 use Rattle.cap.specs.Word.{orVacant, readWord, slotsOf}
 use Rattle.cap.specs.declared.CapId.{CapId}
 use Rattle.mint.specs.Generation.{nextGeneration}
-use Rattle.ipc.specs.Counts.{raised}
-use Rattle.ipc.specs.Make.{sizesOf}
-use Rattle.ipc.specs.Create.{createOf}
-use Rattle.ipc.specs.Send.{sendOf}
-use Rattle.ipc.specs.Receive.{recvOf, parkOf, waiting}
-use Rattle.ipc.specs.Holds.{fourOf, registered, registeredAll, registerOf, released, releasedAll, releaseOf}
-use Rattle.ipc.specs.Revoke.{killed, wiped, revokeOf}
-use Rattle.ipc.specs.Waiters.{withoutWaiter, clearOf}
-use Rattle.ipc.specs.Opening.{openOf, openAny, opened, openingOf, anyRightOf, holdOf}
-use Rattle.ipc.specs.Views.{heldBy, heldIn}
-use Rattle.ipc.specs.declared.state.Message.{Message}
-use Rattle.ipc.specs.declared.state.TaskId.{TaskId}
-use Rattle.ipc.specs.declared.state.Waiter.{Waiter}
-use Rattle.ipc.specs.declared.answers.SendAnswer as send
-use Rattle.ipc.specs.declared.answers.ParkAnswer.the-variants.{Parked}
-use Rattle.ipc.specs.declared.answers.ReleaseAnswer.the-variants.{Released}
-use Rattle.ipc.specs.declared.answers.RevokeAnswer.the-variants.{Revoked}
-use Rattle.ipc.specs.declared.answers.ClearAnswer.the-variants.{Cleared}
+use Rattle.ipc_rules.specs.Counts.{raised}
+use Rattle.ipc_rules.specs.Make.{sizesOf}
+use Rattle.ipc_rules.specs.Create.{createOf}
+use Rattle.ipc_rules.specs.Send.{sendOf}
+use Rattle.ipc_rules.specs.Receive.{recvOf, parkOf, waiting}
+use Rattle.ipc_rules.specs.Holds.{fourOf, registered, registeredAll, registerOf, released, releasedAll, releaseOf}
+use Rattle.ipc_rules.specs.Revoke.{killed, wiped, revokeOf}
+use Rattle.ipc_rules.specs.Waiters.{withoutWaiter, clearOf}
+use Rattle.ipc_rules.specs.Opening.{openOf, openAny, opened, openingOf, anyRightOf, holdOf}
+use Rattle.ipc_rules.specs.Views.{heldBy, heldIn}
+use Rattle.ipc_rules.specs.declared.state.Message.{Message}
+use Rattle.ipc_rules.specs.declared.state.TaskId.{TaskId}
+use Rattle.ipc_rules.specs.declared.state.Waiter.{Waiter}
+use Rattle.ipc_rules.specs.declared.answers.SendAnswer as send
+use Rattle.ipc_rules.specs.declared.answers.ParkAnswer.the-variants.{Parked}
+use Rattle.ipc_rules.specs.declared.answers.ReleaseAnswer.the-variants.{Released}
+use Rattle.ipc_rules.specs.declared.answers.RevokeAnswer.the-variants.{Revoked}
+use Rattle.ipc_rules.specs.declared.answers.ClearAnswer.the-variants.{Cleared}
 use Rattle.history.specs.Calls as call
 use Rattle.history.specs.Calls.{Call, Answer, releasing, answer, after}
 use Rattle.history.specs.World.{World, but, ifCreated, onCreation, step, run, start, fresh}

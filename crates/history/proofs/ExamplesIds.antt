@@ -7,19 +7,19 @@ use Rattle.laws.specs.Pick as picks
 use Rattle.laws.specs.Place as places
 use Rattle.cap.specs.Id.{idOf}
 use Rattle.mint.specs.Generation as generations
-use Rattle.ipc.specs.State.{nobody}
-use Rattle.ipc.specs.Make.{freshOf, sizesOf}
-use Rattle.ipc.specs.Create.{createOf}
-use Rattle.ipc.specs.Send.{sendOf}
-use Rattle.ipc.specs.Observe.{queuedOf}
-use Rattle.ipc.specs.Opening as openings
-use Rattle.ipc.specs.Counts as raises
-use Rattle.ipc.specs.Revoke as revocations
-use Rattle.ipc.specs.declared.state.Message.{Message}
-use Rattle.ipc.specs.declared.answers.CreateAnswer.the-variants.{Created}
-use Rattle.ipc.specs.declared.answers.SendAnswer.the-variants.{Sent, BadCap}
-use Rattle.ipc.specs.declared.answers.QueuedAnswer.the-variants.{Queued}
-use Rattle.ipc.specs.declared.answers.RevokeAnswer.the-variants.{Revoked}
+use Rattle.ipc_rules.specs.State.{nobody}
+use Rattle.ipc_rules.specs.Make.{freshOf, sizesOf}
+use Rattle.ipc_rules.specs.Create.{createOf}
+use Rattle.ipc_rules.specs.Send.{sendOf}
+use Rattle.ipc_rules.specs.Observe.{queuedOf}
+use Rattle.ipc_rules.specs.Opening as openings
+use Rattle.ipc_rules.specs.Counts as raises
+use Rattle.ipc_rules.specs.Revoke as revocations
+use Rattle.ipc_rules.specs.declared.state.Message.{Message}
+use Rattle.ipc_rules.specs.declared.answers.CreateAnswer.the-variants.{Created}
+use Rattle.ipc_rules.specs.declared.answers.SendAnswer.the-variants.{Sent, BadCap}
+use Rattle.ipc_rules.specs.declared.answers.QueuedAnswer.the-variants.{Queued}
+use Rattle.ipc_rules.specs.declared.answers.RevokeAnswer.the-variants.{Revoked}
 use Rattle.history.specs.Calls.{create, send, queued, revoke, created, sent, measured, revoked, answer, after}
 use Rattle.history.specs.World.{ifCreated, onCreation, step, answers, start}
 

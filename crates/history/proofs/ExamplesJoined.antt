@@ -11,18 +11,18 @@ use Rattle.cap.specs.Word as words
 use Rattle.capslots.specs.Table.{freshTable}
 use Rattle.capslots.specs.Rows as rowcalls
 use Rattle.mint.specs.Generation as generations
-use Rattle.ipc.specs.State.{nobody}
-use Rattle.ipc.specs.Make.{freshOf, sizesOf}
-use Rattle.ipc.specs.Create.{createOf}
-use Rattle.ipc.specs.Receive.{parkOf}
-use Rattle.ipc.specs.Holds as holds
-use Rattle.ipc.specs.Opening as openings
-use Rattle.ipc.specs.Counts as raises
-use Rattle.ipc.specs.declared.state.TaskId.{TaskId}
-use Rattle.ipc.specs.declared.answers.CreateAnswer.the-variants.{Created}
-use Rattle.ipc.specs.declared.answers.ParkAnswer.the-variants.{Parked}
-use Rattle.ipc.specs.declared.answers.RegisterAnswer.the-variants.{Registered}
-use Rattle.ipc.specs.declared.answers.ReleaseAnswer.the-variants.{Released}
+use Rattle.ipc_rules.specs.State.{nobody}
+use Rattle.ipc_rules.specs.Make.{freshOf, sizesOf}
+use Rattle.ipc_rules.specs.Create.{createOf}
+use Rattle.ipc_rules.specs.Receive.{parkOf}
+use Rattle.ipc_rules.specs.Holds as holds
+use Rattle.ipc_rules.specs.Opening as openings
+use Rattle.ipc_rules.specs.Counts as raises
+use Rattle.ipc_rules.specs.declared.state.TaskId.{TaskId}
+use Rattle.ipc_rules.specs.declared.answers.CreateAnswer.the-variants.{Created}
+use Rattle.ipc_rules.specs.declared.answers.ParkAnswer.the-variants.{Parked}
+use Rattle.ipc_rules.specs.declared.answers.RegisterAnswer.the-variants.{Registered}
+use Rattle.ipc_rules.specs.declared.answers.ReleaseAnswer.the-variants.{Released}
 use Rattle.joined.specs.Steps as joins
 use Rattle.history.specs.Calls.{Call, create, park, register, release, created, parked, registered, released, answer, after}
 use Rattle.history.specs.World.{ifCreated, onCreation, step, answers, start}

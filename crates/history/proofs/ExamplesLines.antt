@@ -6,11 +6,11 @@ use Prim.Native.Nat.{ℕ}
 use Rattle.laws.specs.Pick as picks
 use Rattle.laws.specs.Place as places
 use Rattle.mint.specs.Generation as generations
-use Rattle.ipc.specs.Answers.{waiterValues}
-use Rattle.ipc.specs.Create.{createOf}
-use Rattle.ipc.specs.Send.{sendOf}
-use Rattle.ipc.specs.Receive.{recvOf, parkOf}
-use Rattle.ipc.specs.Opening as openings
+use Rattle.ipc_rules.specs.Answers.{waiterValues}
+use Rattle.ipc_rules.specs.Create.{createOf}
+use Rattle.ipc_rules.specs.Send.{sendOf}
+use Rattle.ipc_rules.specs.Receive.{recvOf, parkOf}
+use Rattle.ipc_rules.specs.Opening as openings
 use Rattle.logread.specs.Little as numbers
 use Rattle.operations.specs.Apply.{applyOf}
 use Rattle.operations.specs.Channels.{createDone, sendDone, receiveDone, parkDone}

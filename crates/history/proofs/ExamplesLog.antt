@@ -8,23 +8,23 @@ use Rattle.laws.specs.Pick as picks
 use Rattle.laws.specs.Place as places
 use Rattle.cap.specs.Id.{idOf}
 use Rattle.mint.specs.Generation as generations
-use Rattle.ipc.specs.State.{nobody}
-use Rattle.ipc.specs.Make.{sizesOf}
-use Rattle.ipc.specs.Create.{createOf}
-use Rattle.ipc.specs.Send.{sendOf}
-use Rattle.ipc.specs.Receive.{recvOf, parkOf}
-use Rattle.ipc.specs.Observe.{queuedOf}
-use Rattle.ipc.specs.Opening as openings
-use Rattle.ipc.specs.Counts as raises
-use Rattle.ipc.specs.Revoke as revocations
-use Rattle.ipc.specs.declared.state.Message.{Message}
-use Rattle.ipc.specs.declared.state.TaskId.{TaskId}
-use Rattle.ipc.specs.declared.answers.CreateAnswer.the-variants.{Created}
-use Rattle.ipc.specs.declared.answers.SendAnswer.the-variants.{Sent}
-use Rattle.ipc.specs.declared.answers.RecvAnswer.the-variants.{BadCap}
-use Rattle.ipc.specs.declared.answers.ParkAnswer.the-variants.{Given, Cancelled}
-use Rattle.ipc.specs.declared.answers.RevokeAnswer.the-variants.{Revoked}
-use Rattle.ipc.specs.declared.answers.RefusalsAnswer.the-variants.{Counts}
+use Rattle.ipc_rules.specs.State.{nobody}
+use Rattle.ipc_rules.specs.Make.{sizesOf}
+use Rattle.ipc_rules.specs.Create.{createOf}
+use Rattle.ipc_rules.specs.Send.{sendOf}
+use Rattle.ipc_rules.specs.Receive.{recvOf, parkOf}
+use Rattle.ipc_rules.specs.Observe.{queuedOf}
+use Rattle.ipc_rules.specs.Opening as openings
+use Rattle.ipc_rules.specs.Counts as raises
+use Rattle.ipc_rules.specs.Revoke as revocations
+use Rattle.ipc_rules.specs.declared.state.Message.{Message}
+use Rattle.ipc_rules.specs.declared.state.TaskId.{TaskId}
+use Rattle.ipc_rules.specs.declared.answers.CreateAnswer.the-variants.{Created}
+use Rattle.ipc_rules.specs.declared.answers.SendAnswer.the-variants.{Sent}
+use Rattle.ipc_rules.specs.declared.answers.RecvAnswer.the-variants.{BadCap}
+use Rattle.ipc_rules.specs.declared.answers.ParkAnswer.the-variants.{Given, Cancelled}
+use Rattle.ipc_rules.specs.declared.answers.RevokeAnswer.the-variants.{Revoked}
+use Rattle.ipc_rules.specs.declared.answers.RefusalsAnswer.the-variants.{Counts}
 use Rattle.logread.specs.Little as numbers
 use Rattle.logread.specs.Operands as operands
 use Rattle.logread.specs.Read as reads

@@ -9,19 +9,19 @@ use Rattle.laws.specs.Pick.{pick}
 use Rattle.cap.specs.Rights.{sendRight, receiveRight}
 use Rattle.cap.specs.declared.CapId.{CapId}
 use Rattle.cap.specs.declared.CapRights.{CapRights}
-use Rattle.ipc.specs.Opening.{openingOf}
-use Rattle.ipc.specs.Receive.{recvOf, parkOf}
-use Rattle.ipc.specs.Views.{queueOf}
-use Rattle.ipc.specs.declared.state.Message.{Message}
-use Rattle.ipc.specs.declared.state.TaskId.{TaskId}
-use Rattle.ipc.specs.declared.state.Table.{Table}
-use Rattle.ipc.specs.declared.answers.Receiving.{Receiving}
-use Rattle.ipc.specs.declared.answers.Parking.{Parking}
-use Rattle.ipc.specs.declared.opening.Opening.the-variants.{Opens, Shut}
-use Rattle.ipc.proofs.Openings.{opens-live}
-use Rattle.ipc.proofs.AfterSend as after-send
-use Rattle.ipc.proofs.AfterReceive as after-recv
-use Rattle.ipc.proofs.AfterPark as after-park
+use Rattle.ipc_rules.specs.Opening.{openingOf}
+use Rattle.ipc_rules.specs.Receive.{recvOf, parkOf}
+use Rattle.ipc_rules.specs.Views.{queueOf}
+use Rattle.ipc_rules.specs.declared.state.Message.{Message}
+use Rattle.ipc_rules.specs.declared.state.TaskId.{TaskId}
+use Rattle.ipc_rules.specs.declared.state.Table.{Table}
+use Rattle.ipc_rules.specs.declared.answers.Receiving.{Receiving}
+use Rattle.ipc_rules.specs.declared.answers.Parking.{Parking}
+use Rattle.ipc_rules.specs.declared.opening.Opening.the-variants.{Opens, Shut}
+use Rattle.ipc_rules.proofs.Openings.{opens-live}
+use Rattle.ipc_rules.proofs.AfterSend as after-send
+use Rattle.ipc_rules.proofs.AfterReceive as after-recv
+use Rattle.ipc_rules.proofs.AfterPark as after-park
 use Rattle.history.specs.Calls.{receive, park, send}
 use Rattle.history.specs.World.{World}
 use Rattle.history.specs.Channels.{LivesIn, on}

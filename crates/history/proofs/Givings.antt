@@ -9,9 +9,9 @@ use lib.ListN.{length, length-append}
 use Rattle.laws.proofs.Bools.{below?}
 use Rattle.laws.proofs.Cases.{all-pick}
 use Rattle.cap.specs.Rights.{receiveRight}
-use Rattle.ipc.specs.declared.state.Message.{Message}
-use Rattle.ipc.specs.declared.answers.RecvAnswer as recv
-use Rattle.ipc.specs.declared.answers.ParkAnswer as park
+use Rattle.ipc_rules.specs.declared.state.Message.{Message}
+use Rattle.ipc_rules.specs.declared.answers.RecvAnswer as recv
+use Rattle.ipc_rules.specs.declared.answers.ParkAnswer as park
 use Rattle.history.specs.Calls.{Call, create, send, receive, park, queued, revoke, register, release, holders, clear, noteAuthority, noteState, counts}
 use Rattle.history.specs.World.{World, step, run}
 use Rattle.history.specs.Channels.{on}

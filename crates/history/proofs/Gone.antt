@@ -11,8 +11,8 @@ use Rattle.laws.proofs.Cases.{not-both}
 use Rattle.cap.specs.Rights.{sendRight, receiveRight}
 use Rattle.cap.specs.declared.CapId.{CapId}
 use Rattle.cap.specs.declared.CapRights.{CapRights}
-use Rattle.ipc.specs.Opening.{openingOf, anyRightOf}
-use Rattle.ipc.proofs.Openings.{opens-live, any-within}
+use Rattle.ipc_rules.specs.Opening.{openingOf, anyRightOf}
+use Rattle.ipc_rules.proofs.Openings.{opens-live, any-within}
 use Rattle.history.specs.Calls.{Call, create, send, receive, park, queued, revoke, register, release, holders, clear, noteAuthority, noteState, counts}
 use Rattle.history.specs.World.{World, step}
 use Rattle.history.specs.Channels.{on, onAny}

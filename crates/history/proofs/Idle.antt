@@ -8,10 +8,10 @@ use Prim.Native.Nat.{ℕ, _+_, _*_, _<_}
 use native.Mathlib.Omega.{arith}
 use Rattle.cap.specs.Id.{idOf}
 use Rattle.cap.specs.declared.CapId.{CapId}
-use Rattle.ipc.specs.State.{nobody}
-use Rattle.ipc.specs.Sound.{Sound}
-use Rattle.ipc.specs.declared.state.Channel.{Channel}
-use Rattle.ipc.specs.declared.state.Message.{Message}
+use Rattle.ipc_rules.specs.State.{nobody}
+use Rattle.ipc_rules.specs.Sound.{Sound}
+use Rattle.ipc_rules.specs.declared.state.Channel.{Channel}
+use Rattle.ipc_rules.specs.declared.state.Message.{Message}
 use Rattle.history.specs.Calls.{create, Answer, sent, received, parked, registered, answer, after}
 use Rattle.history.specs.World.{World, onCreation, step, answers, Reached}
 use Rattle.history.specs.Ids.{Makes}

@@ -12,14 +12,14 @@ use Rattle.cap.specs.Rights.{sendRight, receiveRight}
 use Rattle.cap.specs.declared.CapId.{CapId}
 use Rattle.cap.specs.declared.CapRights.{CapRights}
 use Rattle.cap.proofs.Ids.{index-of-id, generation-of-id}
-use Rattle.ipc.specs.Sound.{Sound}
-use Rattle.ipc.specs.Create.{createOf}
-use Rattle.ipc.specs.Opening.{openingOf, eitherOf}
-use Rattle.ipc.specs.declared.state.Channel.{Channel}
-use Rattle.ipc.specs.declared.opening.Opening.the-variants.{Opens}
-use Rattle.ipc.proofs.Openings.{opens-live, either-cases, hold-opens}
-use Rattle.ipc.proofs.OtherOpenings.{any-is}
-use Rattle.ipc.proofs.AfterCreate.{CreateWays, no-mailbox, no-endpoint, created, create-ways}
+use Rattle.ipc_rules.specs.Sound.{Sound}
+use Rattle.ipc_rules.specs.Create.{createOf}
+use Rattle.ipc_rules.specs.Opening.{openingOf, eitherOf}
+use Rattle.ipc_rules.specs.declared.state.Channel.{Channel}
+use Rattle.ipc_rules.specs.declared.opening.Opening.the-variants.{Opens}
+use Rattle.ipc_rules.proofs.Openings.{opens-live, either-cases, hold-opens}
+use Rattle.ipc_rules.proofs.OtherOpenings.{any-is}
+use Rattle.ipc_rules.proofs.AfterCreate.{CreateWays, no-mailbox, no-endpoint, created, create-ways}
 use Rattle.history.specs.Calls.{Call, create, answer}
 use Rattle.history.specs.World.{World, step, run, Reached}
 use Rattle.history.specs.Channels.{LivesIn}
@@ -38,8 +38,8 @@ pub record Placed (w : World) (b : Bool) (ids : Channel) : Type 0 where
   pub send : ℕ
   pub recv : ℕ
   pub births : Births w b box send recv (step w (create b))
-  pub send-id : ids .send ≡ idOf send (w .table .«next_gen»)
-  pub recv-id : ids .recv ≡ idOf recv (w .table .«next_gen»)
+  pub send-id : ids .send ≡ idOf send (w .table .counters .«next_gen»)
+  pub recv-id : ids .recv ≡ idOf recv (w .table .counters .«next_gen»)
 
 pub placed : (w : World) (b : Bool) (n : ℕ) (ids : Channel) → Sound (w .table) → Makes w b n ids → Placed w b ids
 unfolding answer
@@ -64,7 +64,7 @@ pub record Issued (n : ℕ) (c : CapId) (v : World) : Type 0 where
 
 module _ (w : World) (b : Bool) (n : ℕ) (ids : Channel) (τ : Tidy w) (m : Makes w b n ids) (p : Placed w b ids) where
   abbrev g : ℕ
-  g = w .table .«next_gen»
+  g = w .table .counters .«next_gen»
 
   issued-at : (i : ℕ) (c : CapId) → i < 65536 → (i ≡ p .send) ⊎ (i ≡ p .recv) → c ≡ idOf i g → Issued n c (step w (create b))
   issued-at i c l at e =

@@ -19,12 +19,12 @@ use Rattle.capslots.specs.Table.{Shape}
 use Rattle.capslots.specs.declared.Table.{Table as Rows}
 use Rattle.capslots.specs.declared.Drained.{Drained}
 use Rattle.capslots.proofs.Ways.{drain-ways}
-use Rattle.ipc.specs.Holds.{registered, registeredAll, registerOf, releaseOf}
-use Rattle.ipc.specs.Opening.{holdOf}
-use Rattle.ipc.specs.declared.state.Table.{Table}
-use Rattle.ipc.specs.declared.answers.RegisterAnswer.the-variants.{Registered}
-use Rattle.ipc.specs.declared.answers.ReleaseAnswer.the-variants.{Released}
-use Rattle.ipc.proofs.Openings.{all-opened, hold-opens}
+use Rattle.ipc_rules.specs.Holds.{registered, registeredAll, registerOf, releaseOf}
+use Rattle.ipc_rules.specs.Opening.{holdOf}
+use Rattle.ipc_rules.specs.declared.state.Table.{Table}
+use Rattle.ipc_rules.specs.declared.answers.RegisterAnswer.the-variants.{Registered}
+use Rattle.ipc_rules.specs.declared.answers.ReleaseAnswer.the-variants.{Released}
+use Rattle.ipc_rules.proofs.Openings.{all-opened, hold-opens}
 use Rattle.joined.specs.Answers.{spawnNumber, leaveNumber, giveNumber}
 use Rattle.joined.specs.Steps.{spawnOf, leaveOf, giveOf}
 use Rattle.joined.specs.declared.answers.Spawning.{Spawning}

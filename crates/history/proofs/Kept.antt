@@ -2,17 +2,17 @@
 use mathlib.Core.Path.{_≡_, refl}
 use mathlib.Core.List.{List, [], _∷_, _++_}
 use Rattle.laws.proofs.Cases.{all-pick}
-use Rattle.ipc.specs.Sound.{Sound}
-use Rattle.ipc.specs.Holds.{registerOf, releaseOf}
-use Rattle.ipc.specs.declared.state.Table.{Table}
-use Rattle.ipc.specs.declared.answers.CreateAnswer.the-variants.{Created, NoMailbox, NoEndpoint, BadTable}
-use Rattle.ipc.specs.declared.answers.Registering.{Registering}
-use Rattle.ipc.proofs.Fresh.{in-range-of, fresh-sound}
-use Rattle.ipc.proofs.Keeps.{counts-kept}
-use Rattle.ipc.proofs.KeepsCalls.{send-kept, recv-kept, park-kept, registered-all-kept, released-all-kept}
-use Rattle.ipc.proofs.KeepsCreate.{create-kept}
-use Rattle.ipc.proofs.KeepsRevoke.{revoke-kept}
-use Rattle.ipc.proofs.KeepsClear.{clear-kept}
+use Rattle.ipc_rules.specs.Sound.{Sound}
+use Rattle.ipc_rules.specs.Holds.{registerOf, releaseOf}
+use Rattle.ipc_rules.specs.declared.state.Table.{Table}
+use Rattle.ipc_rules.specs.declared.answers.CreateAnswer.the-variants.{Created, NoMailbox, NoEndpoint, BadTable}
+use Rattle.ipc_rules.specs.declared.answers.Registering.{Registering}
+use Rattle.ipc_rules.proofs.Fresh.{in-range-of, fresh-sound}
+use Rattle.ipc_rules.proofs.Keeps.{counts-kept}
+use Rattle.ipc_rules.proofs.KeepsCalls.{send-kept, recv-kept, park-kept, registered-all-kept, released-all-kept}
+use Rattle.ipc_rules.proofs.KeepsCreate.{create-kept}
+use Rattle.ipc_rules.proofs.KeepsRevoke.{revoke-kept}
+use Rattle.ipc_rules.proofs.KeepsClear.{clear-kept}
 use Rattle.history.specs.Calls.{Call, create, send, receive, park, queued, revoke, register, release, holders, clear, noteAuthority, noteState, counts, Answer, created, sent, received, parked, measured, revoked, registered, released, held, cleared, noted, counted, answer, after}
 use Rattle.history.specs.World.{World, ifCreated, onCreation, settled, born, step, run, Reached, fresh, then}
 

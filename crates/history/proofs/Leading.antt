@@ -4,9 +4,9 @@ use mathlib.Core.Bool.{true, false}
 use Prim.Native.Nat.{ℕ}
 use borrow.Author.Tests.{eqb-true, eq-eqb}
 use Rattle.laws.proofs.Cases.{not-both}
-use Rattle.ipc.specs.Opening.{opened}
-use Rattle.ipc.specs.declared.opening.Opening.{Opening}
-use Rattle.ipc.specs.declared.opening.Opening.the-variants.{Opens, Shut}
+use Rattle.ipc_rules.specs.Opening.{opened}
+use Rattle.ipc_rules.specs.declared.opening.Opening.{Opening}
+use Rattle.ipc_rules.specs.declared.opening.Opening.the-variants.{Opens, Shut}
 use Rattle.history.specs.World.{World}
 use Rattle.history.specs.Channels.{leads}
 

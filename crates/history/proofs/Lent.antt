@@ -3,8 +3,8 @@ use mathlib.Core.Path.{_≡_, refl, sym, ap, _∙_}
 use mathlib.Core.List.{List, map}
 use Rattle.cap.specs.Word.{wordOf}
 use Rattle.cap.specs.declared.slot.Slot.{Slot}
-use Rattle.ipc.specs.Holds.{registerOf}
-use Rattle.ipc.specs.declared.answers.Registering.{Registering}
+use Rattle.ipc_rules.specs.Holds.{registerOf}
+use Rattle.ipc_rules.specs.declared.answers.Registering.{Registering}
 use Rattle.lent.specs.Holds.{registerSlots}
 use Rattle.lent.proofs.AsWords.{register-as-words}
 use Rattle.history.specs.Calls.{registered, answer, after}

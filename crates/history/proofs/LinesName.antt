@@ -13,10 +13,10 @@ use Rattle.laws.proofs.Cases.{all-pick, not-both}
 use Rattle.cap.specs.declared.slot.Slot.{Slot}
 use Rattle.capslots.specs.Rows.{drainOf}
 use Rattle.capslots.specs.Table.{Shape}
-use Rattle.ipc.specs.Answers.{waiterValues}
-use Rattle.ipc.specs.Waiters.{clearOf}
-use Rattle.ipc.specs.declared.state.TaskId.{TaskId}
-use Rattle.ipc.specs.declared.state.Table.{Table}
+use Rattle.ipc_rules.specs.Answers.{waiterValues}
+use Rattle.ipc_rules.specs.Waiters.{clearOf}
+use Rattle.ipc_rules.specs.declared.state.TaskId.{TaskId}
+use Rattle.ipc_rules.specs.declared.state.Table.{Table}
 use Rattle.joined.specs.Answers.{leaveNumber, leaveValues}
 use Rattle.joined.specs.Steps.{leaveOf}
 use Rattle.joined.specs.declared.answers.Leaving.{Leaving}

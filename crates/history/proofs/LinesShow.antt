@@ -7,11 +7,11 @@ use native.Mathlib.Omega.{arith}
 use lib.Dec.{eqb}
 use Rattle.laws.specs.Pick.{pick}
 use Rattle.laws.proofs.Cases.{all-pick}
-use Rattle.ipc.specs.Answers.{recvNumber, recvValues, parkNumber, parkValues}
-use Rattle.ipc.specs.Receive.{recvOf, parkOf}
-use Rattle.ipc.specs.declared.state.Message.{Message}
-use Rattle.ipc.specs.declared.answers.RecvAnswer as recv
-use Rattle.ipc.specs.declared.answers.ParkAnswer as park
+use Rattle.ipc_rules.specs.Answers.{recvNumber, recvValues, parkNumber, parkValues}
+use Rattle.ipc_rules.specs.Receive.{recvOf, parkOf}
+use Rattle.ipc_rules.specs.declared.state.Message.{Message}
+use Rattle.ipc_rules.specs.declared.answers.RecvAnswer as recv
+use Rattle.ipc_rules.specs.declared.answers.ParkAnswer as park
 use Rattle.operations.specs.Apply.{allDone, unknownDone, applyOf}
 use Rattle.operations.specs.Channels.{receiveDone, parkDone}
 use Rattle.operations.specs.Done.{Done}

@@ -10,14 +10,14 @@ use Rattle.laws.proofs.Cases.{not-both}
 use Rattle.cap.specs.declared.CapId.{CapId}
 use Rattle.cap.specs.declared.CapRights.{CapRights}
 use Rattle.cap.specs.Rights.{sendRight, receiveRight}
-use Rattle.ipc.specs.State.{mailboxLive}
-use Rattle.ipc.specs.Opening.{openingOf, anyRightOf}
-use Rattle.ipc.specs.Revoke.{revokeOf}
-use Rattle.ipc.specs.declared.state.Waiter.{Waiter}
-use Rattle.ipc.specs.declared.opening.Opening.{Opening}
-use Rattle.ipc.specs.declared.opening.Opening.the-variants.{Opens, Shut}
-use Rattle.ipc.specs.declared.answers.RevokeAnswer.the-variants.{Revoked}
-use Rattle.ipc.proofs.AfterRevoke as revokes
+use Rattle.ipc_rules.specs.State.{mailboxLive}
+use Rattle.ipc_rules.specs.Opening.{openingOf, anyRightOf}
+use Rattle.ipc_rules.specs.Revoke.{revokeOf}
+use Rattle.ipc_rules.specs.declared.state.Waiter.{Waiter}
+use Rattle.ipc_rules.specs.declared.opening.Opening.{Opening}
+use Rattle.ipc_rules.specs.declared.opening.Opening.the-variants.{Opens, Shut}
+use Rattle.ipc_rules.specs.declared.answers.RevokeAnswer.the-variants.{Revoked}
+use Rattle.ipc_rules.proofs.AfterRevoke as revokes
 use Rattle.history.specs.Calls.{Call, create, revoke, revoked, answer, after}
 use Rattle.history.specs.World.{World, settled, step, run}
 use Rattle.history.specs.Channels.{LivesIn}

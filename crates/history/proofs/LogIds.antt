@@ -7,11 +7,11 @@ use Prim.Native.Nat.{ℕ, suc, _+_, _<_}
 use native.Mathlib.Omega.{arith}
 use lib.Dec.{eqb}
 use Rattle.cap.specs.declared.CapId.{CapId}
-use Rattle.ipc.specs.Answers.{createNumber, createValues}
-use Rattle.ipc.specs.Create.{createOf}
-use Rattle.ipc.specs.declared.state.Channel.{Channel}
-use Rattle.ipc.specs.declared.answers.CreateAnswer.{CreateAnswer}
-use Rattle.ipc.specs.declared.answers.CreateAnswer.the-variants.{Created, NoMailbox, NoEndpoint, BadTable}
+use Rattle.ipc_rules.specs.Answers.{createNumber, createValues}
+use Rattle.ipc_rules.specs.Create.{createOf}
+use Rattle.ipc_rules.specs.declared.state.Channel.{Channel}
+use Rattle.ipc_rules.specs.declared.answers.CreateAnswer.{CreateAnswer}
+use Rattle.ipc_rules.specs.declared.answers.CreateAnswer.the-variants.{Created, NoMailbox, NoEndpoint, BadTable}
 use Rattle.logread.specs.Little.{byteAt}
 use Rattle.operations.specs.Apply.{applyOf}
 use Rattle.operations.specs.Channels.{createDone, sendDone, receiveDone, parkDone, queuedDone, revokeDone, holdersDone}

@@ -6,12 +6,12 @@ use Prim.Native.Nat.{ℕ, zero, suc}
 use native.Mathlib.Omega.{arith}
 use lib.ListN.{length}
 use Rattle.cap.specs.declared.CapId.{CapId}
-use Rattle.ipc.specs.Answers.{sendNumber}
-use Rattle.ipc.specs.Send.{sendOf}
-use Rattle.ipc.specs.Views.{queueOf}
-use Rattle.ipc.specs.declared.state.Message.{Message}
-use Rattle.ipc.specs.declared.answers.SendAnswer.{SendAnswer}
-use Rattle.ipc.specs.declared.answers.SendAnswer.the-variants.{Sent, BadCap, Full, BadTable}
+use Rattle.ipc_rules.specs.Answers.{sendNumber}
+use Rattle.ipc_rules.specs.Send.{sendOf}
+use Rattle.ipc_rules.specs.Views.{queueOf}
+use Rattle.ipc_rules.specs.declared.state.Message.{Message}
+use Rattle.ipc_rules.specs.declared.answers.SendAnswer.{SendAnswer}
+use Rattle.ipc_rules.specs.declared.answers.SendAnswer.the-variants.{Sent, BadCap, Full, BadTable}
 use Rattle.operations.specs.Apply.{applyOf}
 use Rattle.operations.specs.Channels.{sendDone}
 use Rattle.operations.specs.Operands.{idAt, messageAt}

@@ -7,11 +7,11 @@ use Prim.Native.Nat.{ℕ}
 use native.Mathlib.Omega.{arith}
 use borrow.Author.Tests.{not-true}
 use Rattle.laws.proofs.Every.{and-left, and-right, and-both}
-use Rattle.ipc.specs.Answers.{parkNumber, parkValues}
-use Rattle.ipc.specs.Receive.{parkOf}
-use Rattle.ipc.specs.declared.state.TaskId.{TaskId}
-use Rattle.ipc.specs.declared.answers.ParkAnswer.{ParkAnswer}
-use Rattle.ipc.specs.declared.answers.ParkAnswer.the-variants.{Parked, Given, BadCap, Busy, Cancelled, BadTable}
+use Rattle.ipc_rules.specs.Answers.{parkNumber, parkValues}
+use Rattle.ipc_rules.specs.Receive.{parkOf}
+use Rattle.ipc_rules.specs.declared.state.TaskId.{TaskId}
+use Rattle.ipc_rules.specs.declared.answers.ParkAnswer.{ParkAnswer}
+use Rattle.ipc_rules.specs.declared.answers.ParkAnswer.the-variants.{Parked, Given, BadCap, Busy, Cancelled, BadTable}
 use Rattle.operations.specs.Apply.{applyOf}
 use Rattle.operations.specs.Channels.{parkDone}
 use Rattle.operations.specs.Operands.{idAt, taskAt}

@@ -7,9 +7,9 @@ use native.Mathlib.Omega.{arith}
 use lib.ListN.{getD, length, take, drop, length-append, List·getD-append}
 use lib.Seq.{getD-append-seam, getD-append-add, take-append-seam, drop-append-seam}
 use Rattle.cap.specs.declared.CapId.{CapId}
-use Rattle.ipc.specs.State.{freshMessage}
-use Rattle.ipc.specs.Views.{queueOf}
-use Rattle.ipc.specs.declared.state.Message.{Message}
+use Rattle.ipc_rules.specs.State.{freshMessage}
+use Rattle.ipc_rules.specs.Views.{queueOf}
+use Rattle.ipc_rules.specs.declared.state.Message.{Message}
 use Rattle.history.specs.Calls.{Call, send}
 use Rattle.history.specs.World.{World, step, run, Reached}
 use Rattle.history.specs.Channels.{LivesIn}

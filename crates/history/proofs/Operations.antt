@@ -11,7 +11,7 @@ use Rattle.laws.proofs.Every.{and-left, and-right}
 use Rattle.capslots.specs.Table.{Shape}
 use Rattle.capslots.proofs.Places.{shape-fresh}
 use Rattle.capslots.proofs.Calls.{seed-shape, install-shape, drain-shape, transfer-shape}
-use Rattle.ipc.specs.Make.{inRange}
+use Rattle.ipc_rules.specs.Make.{inRange}
 use Rattle.joined.specs.Steps.{spawnOf, leaveOf, giveOf}
 use Rattle.logread.specs.Little.{byteAt}
 use Rattle.logread.specs.Lists.{listWords}

@@ -1,26 +1,26 @@
 -- In a run the public functions are their rules, `public-calls`. Assumes nothing.
 use mathlib.Core.Path.{_≡_, refl, ap}
 use Rattle.laws.specs.Pick.{pick}
-use Rattle.ipc.specs.Border.{guarded}
-use Rattle.ipc.specs.Sound.{Sound}
-use Rattle.ipc.specs.Counts.{noteAuthorityOf, noteStateOf}
-use Rattle.ipc.specs.Create.{createOf}
-use Rattle.ipc.specs.Send.{sendOf}
-use Rattle.ipc.specs.Receive.{recvOf, parkOf}
-use Rattle.ipc.specs.Holds.{registerOf, releaseOf}
-use Rattle.ipc.specs.Revoke.{revokeOf}
-use Rattle.ipc.specs.Waiters.{clearOf}
-use Rattle.ipc.specs.declared.state.Table.{Table}
-use Rattle.ipc.specs.declared.answers.Creation.{Creation}
-use Rattle.ipc.specs.declared.answers.Sending.{Sending}
-use Rattle.ipc.specs.declared.answers.Receiving.{Receiving}
-use Rattle.ipc.specs.declared.answers.Parking.{Parking}
-use Rattle.ipc.specs.declared.answers.Registering.{Registering}
-use Rattle.ipc.specs.declared.answers.Releasing.{Releasing}
-use Rattle.ipc.specs.declared.answers.Revoking.{Revoking}
-use Rattle.ipc.specs.declared.answers.Clearing.{Clearing}
-use Rattle.ipc.specs.declared.answers.Noting.{Noting}
-use Rattle.ipc.proofs.Decide.{test-of}
+use Rattle.ipc_sound.specs.Border.{guarded}
+use Rattle.ipc_rules.specs.Sound.{Sound}
+use Rattle.ipc_rules.specs.Counts.{noteAuthorityOf, noteStateOf}
+use Rattle.ipc_rules.specs.Create.{createOf}
+use Rattle.ipc_rules.specs.Send.{sendOf}
+use Rattle.ipc_rules.specs.Receive.{recvOf, parkOf}
+use Rattle.ipc_rules.specs.Holds.{registerOf, releaseOf}
+use Rattle.ipc_rules.specs.Revoke.{revokeOf}
+use Rattle.ipc_rules.specs.Waiters.{clearOf}
+use Rattle.ipc_rules.specs.declared.state.Table.{Table}
+use Rattle.ipc_rules.specs.declared.answers.Creation.{Creation}
+use Rattle.ipc_rules.specs.declared.answers.Sending.{Sending}
+use Rattle.ipc_rules.specs.declared.answers.Receiving.{Receiving}
+use Rattle.ipc_rules.specs.declared.answers.Parking.{Parking}
+use Rattle.ipc_rules.specs.declared.answers.Registering.{Registering}
+use Rattle.ipc_rules.specs.declared.answers.Releasing.{Releasing}
+use Rattle.ipc_rules.specs.declared.answers.Revoking.{Revoking}
+use Rattle.ipc_rules.specs.declared.answers.Clearing.{Clearing}
+use Rattle.ipc_rules.specs.declared.answers.Noting.{Noting}
+use Rattle.ipc_sound.proofs.Decide.{test-of}
 use Rattle.history.specs.Calls.{Call, create, send, receive, park, queued, revoke, register, release, holders, clear, noteAuthority, noteState, counts, fourSlots, answer, after}
 use Rattle.history.specs.Public.{publicAnswer, publicAfter, PublicCalls}
 use Rattle.history.proofs.Kept.{reached-sound}

@@ -10,32 +10,33 @@ use Rattle.laws.specs.Pick.{pick}
 use Rattle.laws.proofs.Cases.{yes, no}
 use Rattle.cap.specs.Rights.{sendRight, receiveRight}
 use Rattle.cap.specs.declared.CapId.{CapId}
-use Rattle.ipc.specs.State.{mailboxAt, messageAt}
-use Rattle.ipc.specs.Sound.{Sound}
-use Rattle.ipc.specs.Answers.{sendNumber, sendValues, recvNumber, recvValues, parkNumber, parkValues, queuedNumber, queuedValues, revokeNumber, revokeValues, holdersNumber, holdersValues}
-use Rattle.ipc.specs.Counts.{authorityRaised, stateRaised}
-use Rattle.ipc.specs.Opening.{openingOf, eitherOf, opened}
-use Rattle.ipc.specs.Send.{sendOf}
-use Rattle.ipc.specs.Receive.{recvOf, parkOf, otherWaits, oldest, takenFrom, parkedIn}
-use Rattle.ipc.specs.Revoke.{revokeOf}
-use Rattle.ipc.specs.Views.{ringFrom, queueOf, waiterOf, holdsOf, ephemeralOf, Alike, OnlyCounts}
-use Rattle.ipc.specs.declared.state.Message.{Message}
-use Rattle.ipc.specs.declared.state.TaskId.{TaskId}
-use Rattle.ipc.specs.declared.state.Table.{Table}
-use Rattle.ipc.specs.declared.answers.Sending.{Sending}
-use Rattle.ipc.specs.declared.answers.Receiving.{Receiving}
-use Rattle.ipc.specs.declared.answers.Parking.{Parking}
-use Rattle.ipc.specs.declared.answers.ParkAnswer.the-variants.{Parked, Given, BadCap, Busy, Cancelled}
-use Rattle.ipc.specs.declared.answers.Revoking.{Revoking}
-use Rattle.ipc.specs.declared.opening.Opening.{Opening}
-use Rattle.ipc.specs.declared.opening.Opening.the-variants.{Opens, Shut}
-use Rattle.ipc.proofs.Changes.{alike-same, steady-same}
-use Rattle.ipc.proofs.Looks.{queued-says, queued-refused, holders-says, holders-refused}
-use Rattle.ipc.proofs.AfterCounts.{authority-only}
-use Rattle.ipc.proofs.AfterSend as sends
-use Rattle.ipc.proofs.AfterReceive as receives
-use Rattle.ipc.proofs.AfterPark.{park-others}
-use Rattle.ipc.proofs.AfterRevoke as revokes
+use Rattle.ipc_rules.specs.State.{mailboxAt, messageAt}
+use Rattle.ipc_rules.specs.Sound.{Sound}
+use Rattle.ipc_rules.specs.Answers.{sendNumber, sendValues, recvNumber, recvValues, parkNumber, parkValues, queuedNumber, queuedValues, revokeNumber, revokeValues, holdersNumber, holdersValues}
+use Rattle.ipc_rules.specs.Counts.{authorityRaised, stateRaised}
+use Rattle.ipc_rules.specs.Opening.{openingOf, eitherOf, opened}
+use Rattle.ipc_rules.specs.Send.{sendOf}
+use Rattle.ipc_rules.specs.Receive.{recvOf, parkOf, otherWaits, oldest, takenFrom, parkedIn}
+use Rattle.ipc_rules.specs.Revoke.{revokeOf}
+use Rattle.ring.specs.Ring.{ringFrom}
+use Rattle.ipc_rules.specs.Views.{queueOf, waiterOf, holdsOf, ephemeralOf, Alike, OnlyCounts}
+use Rattle.ipc_rules.specs.declared.state.Message.{Message}
+use Rattle.ipc_rules.specs.declared.state.TaskId.{TaskId}
+use Rattle.ipc_rules.specs.declared.state.Table.{Table}
+use Rattle.ipc_rules.specs.declared.answers.Sending.{Sending}
+use Rattle.ipc_rules.specs.declared.answers.Receiving.{Receiving}
+use Rattle.ipc_rules.specs.declared.answers.Parking.{Parking}
+use Rattle.ipc_rules.specs.declared.answers.ParkAnswer.the-variants.{Parked, Given, BadCap, Busy, Cancelled}
+use Rattle.ipc_rules.specs.declared.answers.Revoking.{Revoking}
+use Rattle.ipc_rules.specs.declared.opening.Opening.{Opening}
+use Rattle.ipc_rules.specs.declared.opening.Opening.the-variants.{Opens, Shut}
+use Rattle.ipc_rules.proofs.Changes.{alike-same, steady-same}
+use Rattle.ipc_rules.proofs.Looks.{queued-says, queued-refused, holders-says, holders-refused}
+use Rattle.ipc_rules.proofs.AfterCounts.{authority-only}
+use Rattle.ipc_rules.proofs.AfterSend as sends
+use Rattle.ipc_rules.proofs.AfterReceive as receives
+use Rattle.ipc_rules.proofs.AfterPark.{park-others}
+use Rattle.ipc_rules.proofs.AfterRevoke as revokes
 use Rattle.history.specs.Calls.{send, receive, park, queued, revoke, holders, sent, received, parked, measured, revoked, held, answer, after}
 use Rattle.history.specs.World.{World}
 use Rattle.history.specs.Reach.{Reaches, nothing, channel, Reach, oldestOf, parkBy, sendAt, receiveAt, parkAt, queuedAt, revokeAt, holdersAt}
@@ -68,14 +69,14 @@ module _ (t : Table) (c : CapId) (task : TaskId) (k : ℕ) where
   -- n messages wait
   by-length : (n : ℕ) →
       pick {A = Parking} (ltb 0 n) (record { answer = Given (oldest t k); table = takenFrom t k }) unsaid .answer
-      ≡ parkBy task (ringFrom (messageAt t k) (t .sizes .depth) (mailboxAt t k .tail) n) (ephemeralOf t k) (holdsOf t k) (waiterOf t k)
+      ≡ parkBy task (ringFrom (messageAt t k) (t .sizes .depth) (mailboxAt t k .ring .tail) n) (ephemeralOf t k) (holdsOf t k) (waiterOf t k)
   unfolding parkBy ringFrom pick
   by-length zero = park-choice (ephemeralOf t k && eqb (holdsOf t k) 0) (otherWaits (waiterOf t k) task) _ _ _
   by-length (suc n) = rw (lt-ltb 0 (suc n) (omega arith))
 
   park-answers : openingOf t c receiveRight ≡ Opens k → parkOf t c task .answer ≡ parkBy task (queueOf t k) (ephemeralOf t k) (holdsOf t k) (waiterOf t k)
   unfolding parkOf queueOf opened
-  park-answers o = rw o (by-length (mailboxAt t k .len))
+  park-answers o = rw o (by-length (mailboxAt t k .ring .len))
 
 park-shut : (t : Table) (c : CapId) (task : TaskId) → openingOf t c receiveRight ≡ Shut → parkOf t c task ≡ record { answer = BadCap; table = authorityRaised t }
 unfolding parkOf opened

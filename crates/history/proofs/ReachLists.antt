@@ -18,21 +18,21 @@ use Rattle.cap.specs.declared.CapId.{CapId}
 use Rattle.cap.specs.declared.slot.Slot.{Slot}
 use Rattle.cap.specs.declared.word.WordAnswer.the-variants.{Reads}
 use Rattle.cap.proofs.Words.{reads-test, slots-at, slots-length}
-use Rattle.ipc.specs.Sound.{Sound}
-use Rattle.ipc.specs.Opening.{opened, openHold, holdOf}
-use Rattle.ipc.specs.Holds.{registered, registeredAll, released, releasedAll, releaseOf, Freed}
-use Rattle.ipc.specs.Views.{waiterOf, holdsOf, ephemeralOf, heldBy, heldIn, Alike, Steady}
-use Rattle.ipc.specs.declared.state.Table.{Table}
-use Rattle.ipc.specs.declared.answers.Registering.{Registering}
-use Rattle.ipc.specs.declared.opening.Opening.{Opening}
-use Rattle.ipc.specs.declared.opening.Opening.the-variants.{Opens, Shut}
-use Rattle.ipc.proofs.Changes.{alike-same}
-use Rattle.ipc.proofs.Held.{held-none, held-other}
-use Rattle.ipc.proofs.KeepsCalls.{registered-all-kept, released-all-kept}
-use Rattle.ipc.proofs.OtherOpenings.{hold-steady}
-use Rattle.ipc.proofs.AfterRegister as register
-use Rattle.ipc.proofs.AfterRelease as release
-use Rattle.ipc.proofs.AfterReleaseAll.{ReleasedAt, released-in}
+use Rattle.ipc_rules.specs.Sound.{Sound}
+use Rattle.ipc_rules.specs.Opening.{opened, holdOf}
+use Rattle.ipc_rules.specs.Holds.{registered, registeredAll, released, releasedAll, releaseOf, Freed}
+use Rattle.ipc_rules.specs.Views.{waiterOf, holdsOf, ephemeralOf, heldBy, heldIn, Alike, Steady}
+use Rattle.ipc_rules.specs.declared.state.Table.{Table}
+use Rattle.ipc_rules.specs.declared.answers.Registering.{Registering}
+use Rattle.ipc_rules.specs.declared.opening.Opening.{Opening}
+use Rattle.ipc_rules.specs.declared.opening.Opening.the-variants.{Opens, Shut}
+use Rattle.ipc_rules.proofs.Changes.{alike-same}
+use Rattle.ipc_rules.proofs.Held.{held-none, held-other}
+use Rattle.ipc_rules.proofs.KeepsCalls.{registered-all-kept, released-all-kept}
+use Rattle.ipc_rules.proofs.OtherOpenings.{hold-steady}
+use Rattle.ipc_rules.proofs.AfterRegister as register
+use Rattle.ipc_rules.proofs.AfterRelease as release
+use Rattle.ipc_rules.proofs.AfterReleaseAll.{ReleasedAt, released-in}
 use Rattle.history.specs.Calls.{register, fourSlots, releasing, after}
 use Rattle.history.specs.World.{World}
 use Rattle.history.specs.Channels.{LivesIn}
@@ -131,7 +131,7 @@ module _ (w : World) (n : ℕ) (c : CapId) (σ : Sound (w .table)) (only : Opens
         by (Opens k) o = held-other t j x k o (λ q. away (rw q (only .hold x e k o)))
 
     vacant-none : heldBy t j vacant ≡ 0
-    unfolding heldBy holdOf openHold opened pick
+    unfolding heldBy holdOf opened pick
     vacant-none = refl
 
     -- a list of words, and of slots, with place i vacant

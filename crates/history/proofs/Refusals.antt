@@ -7,39 +7,39 @@ use Rattle.laws.specs.Pick.{pick}
 use Rattle.laws.specs.Refusals as no
 use Rattle.cap.specs.Rights.{sendRight}
 use Rattle.cap.specs.declared.CapId.{CapId}
-use Rattle.ipc.specs.State.{withRefusals}
-use Rattle.ipc.specs.Sound.{Sound}
-use Rattle.ipc.specs.Answers.{createNumber, sendNumber, recvNumber, parkNumber, queuedNumber, revokeNumber, registerNumber, holdersNumber}
-use Rattle.ipc.specs.Create.{createOf}
-use Rattle.ipc.specs.Send.{sendOf}
-use Rattle.ipc.specs.Receive.{recvOf, parkOf}
-use Rattle.ipc.specs.Observe.{queuedOf, holdersOf}
-use Rattle.ipc.specs.Opening.{openingOf, eitherOf}
-use Rattle.ipc.specs.Holds.{registerOf, releaseOf}
-use Rattle.ipc.specs.Revoke.{revokeOf}
-use Rattle.ipc.specs.Views.{countsBy}
-use Rattle.ipc.specs.Waiters.{clearOf}
-use Rattle.ipc.specs.declared.state.Message.{Message}
-use Rattle.ipc.specs.declared.state.TaskId.{TaskId}
-use Rattle.ipc.specs.declared.state.Table.{Table}
-use Rattle.ipc.specs.declared.answers.Creation.{Creation}
-use Rattle.ipc.specs.declared.answers.Sending.{Sending}
-use Rattle.ipc.specs.declared.answers.Receiving.{Receiving}
-use Rattle.ipc.specs.declared.answers.Parking.{Parking}
-use Rattle.ipc.specs.declared.answers.Registering.{Registering}
-use Rattle.ipc.specs.declared.answers.Revoking.{Revoking}
-use Rattle.ipc.specs.declared.opening.Opening.{Opening}
-use Rattle.ipc.specs.declared.opening.Opening.the-variants.{Opens, Shut}
-use Rattle.ipc.proofs.Looks.{queued-says, queued-refused, holders-says, holders-refused}
-use Rattle.ipc.proofs.AfterCreate as creates
-use Rattle.ipc.proofs.AfterSend as sends
-use Rattle.ipc.proofs.AfterReceive as receives
-use Rattle.ipc.proofs.AfterPark as parks
-use Rattle.ipc.proofs.AfterRegister as registers
-use Rattle.ipc.proofs.AfterReleaseAll.{released-in}
-use Rattle.ipc.proofs.AfterRevoke as revokes
-use Rattle.ipc.proofs.AfterClear.{clear-clears}
-use Rattle.ipc.proofs.AfterCounts.{send-counts, recv-counts, park-counts, revoke-counts}
+use Rattle.ipc_rules.specs.State.{withRefusals}
+use Rattle.ipc_rules.specs.Sound.{Sound}
+use Rattle.ipc_rules.specs.Answers.{createNumber, sendNumber, recvNumber, parkNumber, queuedNumber, revokeNumber, registerNumber, holdersNumber}
+use Rattle.ipc_rules.specs.Create.{createOf}
+use Rattle.ipc_rules.specs.Send.{sendOf}
+use Rattle.ipc_rules.specs.Receive.{recvOf, parkOf}
+use Rattle.ipc_rules.specs.Observe.{queuedOf, holdersOf}
+use Rattle.ipc_rules.specs.Opening.{openingOf, eitherOf}
+use Rattle.ipc_rules.specs.Holds.{registerOf, releaseOf}
+use Rattle.ipc_rules.specs.Revoke.{revokeOf}
+use Rattle.ipc_rules.specs.Views.{countsBy}
+use Rattle.ipc_rules.specs.Waiters.{clearOf}
+use Rattle.ipc_rules.specs.declared.state.Message.{Message}
+use Rattle.ipc_rules.specs.declared.state.TaskId.{TaskId}
+use Rattle.ipc_rules.specs.declared.state.Table.{Table}
+use Rattle.ipc_rules.specs.declared.answers.Creation.{Creation}
+use Rattle.ipc_rules.specs.declared.answers.Sending.{Sending}
+use Rattle.ipc_rules.specs.declared.answers.Receiving.{Receiving}
+use Rattle.ipc_rules.specs.declared.answers.Parking.{Parking}
+use Rattle.ipc_rules.specs.declared.answers.Registering.{Registering}
+use Rattle.ipc_rules.specs.declared.answers.Revoking.{Revoking}
+use Rattle.ipc_rules.specs.declared.opening.Opening.{Opening}
+use Rattle.ipc_rules.specs.declared.opening.Opening.the-variants.{Opens, Shut}
+use Rattle.ipc_rules.proofs.Looks.{queued-says, queued-refused, holders-says, holders-refused}
+use Rattle.ipc_rules.proofs.AfterCreate as creates
+use Rattle.ipc_rules.proofs.AfterSend as sends
+use Rattle.ipc_rules.proofs.AfterReceive as receives
+use Rattle.ipc_rules.proofs.AfterPark as parks
+use Rattle.ipc_rules.proofs.AfterRegister as registers
+use Rattle.ipc_rules.proofs.AfterReleaseAll.{released-in}
+use Rattle.ipc_rules.proofs.AfterRevoke as revokes
+use Rattle.ipc_rules.proofs.AfterClear.{clear-clears}
+use Rattle.ipc_rules.proofs.AfterCounts.{send-counts, recv-counts, park-counts, revoke-counts}
 use Rattle.history.specs.Calls.{Call, create, send, receive, park, queued, revoke, register, release, holders, clear, noteAuthority, noteState, counts, fourSlots, answer, after}
 use Rattle.history.specs.Numbers.{numberOf}
 use Rattle.history.specs.World.{World, ifCreated, onCreation, settled, step}
@@ -50,7 +50,7 @@ use Rattle.history.proofs.Steps.{numbered}
 -- ---- by call: a refusal's number is listed, and its table is the one before but for the counts
 record Refuses (t : Table) (call : Call) (n : ℕ) (u : Table) : Type 0 where
   given : listed call n ≡ true
-  only : u ≡ withRefusals t (countsAfter call n (t .refusals))
+  only : u ≡ withRefusals t (countsAfter call n (t .counters .refusals))
 
 module _ (t : Table) (σ : Sound t) where
   send-refuses : (c : CapId) (m : Message) → (sendNumber (sendOf t c m .answer) ≡ no.accepted → ⊥) → Refuses t (send c m) (sendNumber (sendOf t c m .answer)) (sendOf t c m .table)
@@ -147,24 +147,24 @@ refusals-count w reached noteState h = absurd (h refl)
 refusals-count w reached counts h = absurd (h refl)
 
 -- ---- the counts after every call
-create-counts : (t : Table) (b : Bool) → Sound t → createOf t b .table .refusals ≡ countsBy (createNumber (createOf t b .answer)) (t .refusals)
+create-counts : (t : Table) (b : Bool) → Sound t → createOf t b .table .counters .refusals ≡ countsBy (createNumber (createOf t b .answer)) (t .counters .refusals)
 unfolding countsBy pick
 create-counts t b σ = by (creates.create-ways t b σ)
   where
-    by : {r : Creation} → creates.CreateWays t b r → r .table .refusals ≡ countsBy (createNumber (r .answer)) (t .refusals)
+    by : {r : Creation} → creates.CreateWays t b r → r .table .counters .refusals ≡ countsBy (createNumber (r .answer)) (t .counters .refusals)
     by (creates.no-mailbox _ q) = rw q
     by (creates.no-endpoint _ _ _ q) = rw q
     by (creates.created _ _ _ x) = rw (x .answer) (x .counts)
 
-register-counts : (t : Table) (words : List ℕ) → Sound t → registerOf t words .table .refusals ≡ countsBy (registerNumber (registerOf t words .answer)) (t .refusals)
+register-counts : (t : Table) (words : List ℕ) → Sound t → registerOf t words .table .counters .refusals ≡ countsBy (registerNumber (registerOf t words .answer)) (t .counters .refusals)
 unfolding countsBy pick
 register-counts t words σ = by (registers.register-call-ways t words σ)
   where
-    by : {r : Registering} → registers.RegisterCallWays t words r → r .table .refusals ≡ countsBy (registerNumber (r .answer)) (t .refusals)
+    by : {r : Registering} → registers.RegisterCallWays t words r → r .table .counters .refusals ≡ countsBy (registerNumber (r .answer)) (t .counters .refusals)
     by (registers.bad-word _ q) = rw q
     by (registers.all _ a x) = rw a (x .counts)
 
-after-counts : (t : Table) (call : Call) → Sound t → after t call .refusals ≡ countsAfter call (numberOf (answer t call)) (t .refusals)
+after-counts : (t : Table) (call : Call) → Sound t → after t call .counters .refusals ≡ countsAfter call (numberOf (answer t call)) (t .counters .refusals)
 unfolding answer after countsAfter countsBy pick releaseOf clearOf
 after-counts t (create b) σ = create-counts t b σ
 after-counts t (send c m) σ = send-counts t σ c m
@@ -181,4 +181,4 @@ after-counts t noteState σ = refl
 after-counts t counts σ = refl
 
 pub counts-told : CountsTold
-counts-told w reached call = ap (λ (u : Table). u .refusals) (step-table w call) ∙ after-counts (w .table) call (reached-sound reached)
+counts-told w reached call = ap (λ (u : Table). u .counters .refusals) (step-table w call) ∙ after-counts (w .table) call (reached-sound reached)

@@ -14,21 +14,21 @@ use Rattle.cap.specs.Id.{idOf, indexOf}
 use Rattle.cap.specs.Rights.{sendRight, receiveRight}
 use Rattle.cap.specs.declared.CapId.{CapId}
 use Rattle.cap.specs.declared.CapRights.{CapRights}
-use Rattle.ipc.specs.State.{endpointLive, mailboxLive}
-use Rattle.ipc.specs.Create.{createOf}
-use Rattle.ipc.specs.Make.{sizesOf}
-use Rattle.ipc.specs.Opening.{openingOf, anyRightOf, opened}
-use Rattle.ipc.specs.Revoke.{revokeOf}
-use Rattle.ipc.specs.declared.state.Channel.{Channel}
-use Rattle.ipc.specs.declared.state.Mailbox.{Mailbox}
-use Rattle.ipc.specs.declared.state.Sizes.{Sizes}
-use Rattle.ipc.specs.declared.state.Table.{Table}
-use Rattle.ipc.specs.declared.opening.Opening.the-variants.{Opens, Shut}
-use Rattle.ipc.proofs.OtherOpenings.{either-is, any-is}
-use Rattle.ipc.proofs.NewChannel.{dead-shut}
-use Rattle.ipc.proofs.AfterNew.{fresh-box}
-use Rattle.ipc.proofs.AfterCreate.{Creates, CreateWays, no-mailbox, no-endpoint, create-ways}
-use Rattle.ipc.proofs.AfterRevoke.{RevokeWays, bad-cap, revoked, revoke-ways}
+use Rattle.ipc_rules.specs.State.{endpointLive, mailboxLive}
+use Rattle.ipc_rules.specs.Create.{createOf}
+use Rattle.ipc_rules.specs.Make.{sizesOf}
+use Rattle.ipc_rules.specs.Opening.{openingOf, anyRightOf, opened}
+use Rattle.ipc_rules.specs.Revoke.{revokeOf}
+use Rattle.ipc_rules.specs.declared.state.Channel.{Channel}
+use Rattle.ipc_rules.specs.declared.state.Mailbox.{Mailbox}
+use Rattle.ipc_rules.specs.declared.state.Sizes.{Sizes}
+use Rattle.ipc_rules.specs.declared.state.Table.{Table}
+use Rattle.ipc_rules.specs.declared.opening.Opening.the-variants.{Opens, Shut}
+use Rattle.ipc_rules.proofs.OtherOpenings.{either-is, any-is}
+use Rattle.ipc_rules.proofs.NewChannel.{dead-shut}
+use Rattle.ipc_rules.proofs.AfterNew.{fresh-box}
+use Rattle.ipc_rules.proofs.AfterCreate.{Creates, CreateWays, no-mailbox, no-endpoint, create-ways}
+use Rattle.ipc_rules.proofs.AfterRevoke.{RevokeWays, bad-cap, revoked, revoke-ways}
 use Rattle.history.specs.Calls.{Call, create, revoke, created, answer, after}
 use Rattle.history.specs.World.{World, onCreation, step, run, start, fresh}
 use Rattle.history.specs.Channels.{LivesIn}
@@ -83,11 +83,11 @@ module _ (w : World) (n : ℕ) (ι : Idle w n) where
   idle-births : Births w false 0 0 1 (step w (create false))
   idle-births = create-births w false 0 0 1 makes-first
 
-  idle-revokes : anyRightOf (step w (create false) .table) (idOf 0 (t .«next_gen»)) ≡ Opens 0
+  idle-revokes : anyRightOf (step w (create false) .table) (idOf 0 (t .counters .«next_gen»)) ≡ Opens 0
   unfolding opened
   idle-revokes =
       let v = step w (create false) in
-      let c = idOf 0 (t .«next_gen») in
+      let c = idOf 0 (t .counters .«next_gen») in
       any-is (v .table) c (step-grows w (create false) (ι .tidy) .tidy .sound)
       ∙ rw (either-is, idle-births .table, makes-first .openings .sends)
 
@@ -104,14 +104,14 @@ revoke-table : (w : World) (c : CapId) → step w (revoke c) .table ≡ revokeOf
 unfolding after
 revoke-table w c = step-table w (revoke c)
 
-idle-round : (w : World) (n : ℕ) → Idle w n → Idle (round w (idOf 0 (w .table .«next_gen»))) (suc n)
+idle-round : (w : World) (n : ℕ) → Idle w n → Idle (round w (idOf 0 (w .table .counters .«next_gen»))) (suc n)
 idle-round w n ι = by (revoke-ways (v .table) c (τ .sound))
   where
     v : World
     v = step w (create false)
 
     c : CapId
-    c = idOf 0 (w .table .«next_gen»)
+    c = idOf 0 (w .table .counters .«next_gen»)
 
     τ : Tidy v
     τ = step-grows w (create false) (ι .tidy) .tidy
@@ -142,9 +142,9 @@ idle-rounds : (w : World) (n j : ℕ) → Idle w n → Idle (run w (rounds (suc 
 unfolding run rounds
 idle-rounds w n zero ι = let e : n ≡ n + 0 = omega arith in rw (← e) ι
 idle-rounds w n (suc j) ι =
-    let g : w .table .«next_gen» ≡ genOf (suc n) = ι .tidy .next ∙ ap (λ (x : ℕ). genOf (suc x)) (ι .made) in
+    let g : w .table .counters .«next_gen» ≡ genOf (suc n) = ι .tidy .next ∙ ap (λ (x : ℕ). genOf (suc x)) (ι .made) in
     let e : suc n + j ≡ n + suc j = omega arith in
-    rw (← g, ← e) (idle-rounds (round w (idOf 0 (w .table .«next_gen»))) (suc n) j (idle-round w n ι))
+    rw (← g, ← e) (idle-rounds (round w (idOf 0 (w .table .counters .«next_gen»))) (suc n) j (idle-round w n ι))
 
 -- ---- the run
 -- a fresh table with one mailbox and two endpoints
@@ -166,7 +166,7 @@ first = record { send = idOf 0 1; recv = idOf 1 1 }
 
 -- once n channels were made and none lives, and channel n + 1 has the first generation again
 module _ (v : World) (n : ℕ) (ι : Idle v n) (again : genOf (suc n) ≡ 1) where
-  next-first : v .table .«next_gen» ≡ 1
+  next-first : v .table .counters .«next_gen» ≡ 1
   next-first = ι .tidy .next ∙ ap (λ (x : ℕ). genOf (suc x)) (ι .made) ∙ again
 
   last-lives : LivesIn (step v (create false)) (suc n) 0

@@ -7,7 +7,7 @@ use Rattle.cap.specs.declared.CapId.{CapId}
 use Rattle.capslots.specs.Table.{Shape}
 use Rattle.capslots.specs.declared.Table.{Table as Rows}
 use Rattle.capslots.proofs.Calls.{seed-shape, install-shape, drain-shape}
-use Rattle.ipc.specs.declared.state.Table.{Table}
+use Rattle.ipc_rules.specs.declared.state.Table.{Table}
 use Rattle.joined.specs.Steps.{spawnOf, leaveOf, giveOf}
 use Rattle.joined.specs.declared.answers.Spawning.{Spawning}
 use Rattle.joined.specs.declared.answers.Leaving.{Leaving}

@@ -14,14 +14,14 @@ use Rattle.cap.specs.Rights.{sendRight}
 use Rattle.cap.specs.declared.CapId.{CapId}
 use Rattle.cap.specs.declared.CapRights.{CapRights}
 use Rattle.cap.proofs.Ids.{index-of-id, generation-of-id}
-use Rattle.ipc.specs.State.{endpointAt, mailboxLive}
-use Rattle.ipc.specs.Sound.{Sound}
-use Rattle.ipc.specs.Opening.{openingOf, openOf}
-use Rattle.ipc.specs.Views.{Steady}
-use Rattle.ipc.specs.declared.state.Endpoint.{Endpoint}
-use Rattle.ipc.specs.declared.state.Table.{Table}
-use Rattle.ipc.specs.declared.opening.Opening.the-variants.{Opens}
-use Rattle.ipc.proofs.Openings.{opens-live}
+use Rattle.ipc_rules.specs.State.{endpointAt, mailboxLive}
+use Rattle.ipc_rules.specs.Sound.{Sound}
+use Rattle.ipc_rules.specs.Opening.{openingOf, openOf}
+use Rattle.ipc_rules.specs.Views.{Steady}
+use Rattle.ipc_rules.specs.declared.state.Endpoint.{Endpoint}
+use Rattle.ipc_rules.specs.declared.state.Table.{Table}
+use Rattle.ipc_rules.specs.declared.opening.Opening.the-variants.{Opens}
+use Rattle.ipc_rules.proofs.Openings.{opens-live}
 
 -- ---- what lives, opens
 -- an id that opens mailbox k
@@ -47,7 +47,7 @@ live-opens t k s l =
 pub record Shrinks (t u : Table) : Type 0 where
   pub only : (c : CapId) (need : CapRights) (k : ℕ) → openingOf u c need ≡ Opens k → openingOf t c need ≡ Opens k
   pub still : (c : CapId) (need : CapRights) (k : ℕ) → openingOf t c need ≡ Opens k → mailboxLive u k ≡ true → openingOf u c need ≡ Opens k
-  pub next : u .«next_gen» ≡ t .«next_gen»
+  pub next : u .counters .«next_gen» ≡ t .counters .«next_gen»
 
 pub steady-shrinks : (t u : Table) → Steady t u → Shrinks t u
 steady-shrinks t u a = record { only = λ c need k e. sym (a .opening c need) ∙ e; still = λ c need k e _. a .opening c need ∙ e; next = a .next }

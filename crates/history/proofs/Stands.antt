@@ -12,30 +12,30 @@ use Rattle.cap.specs.Rights.{sendRight, receiveRight}
 use Rattle.cap.specs.Slot.{holding}
 use Rattle.cap.specs.Word.{wordOf, wordsRead, orVacant, slotsOf}
 use Rattle.cap.proofs.Words.{holding-back, reads-test}
-use Rattle.ipc.specs.State.{nobody}
-use Rattle.ipc.specs.Sound.{Sound}
-use Rattle.ipc.specs.Counts.{raised}
-use Rattle.ipc.specs.Opening.{openingOf, holdOf}
-use Rattle.ipc.specs.Send.{sendOf}
-use Rattle.ipc.specs.Receive.{recvOf, parkOf, waiting}
-use Rattle.ipc.specs.Holds.{registerOf}
-use Rattle.ipc.specs.Views.{queueOf, waiterOf, holdsOf, ephemeralOf, heldIn, raisedBy, Steady}
-use Rattle.ipc.specs.declared.state.Channel.{Channel}
-use Rattle.ipc.specs.declared.state.Message.{Message}
-use Rattle.ipc.specs.declared.state.TaskId.{TaskId}
-use Rattle.ipc.specs.declared.state.Waiter.{Waiter}
-use Rattle.ipc.specs.declared.state.Table.{Table}
-use Rattle.ipc.specs.declared.answers.SendAnswer.the-variants.{Sent}
-use Rattle.ipc.specs.declared.answers.RecvAnswer.the-variants.{Received}
-use Rattle.ipc.specs.declared.answers.ParkAnswer.the-variants.{Parked, Given}
-use Rattle.ipc.specs.declared.answers.RegisterAnswer.the-variants.{Registered}
-use Rattle.ipc.specs.declared.opening.Opening.the-variants.{Opens}
-use Rattle.ipc.proofs.Held.{held-one}
-use Rattle.ipc.proofs.KeepsCalls.{send-kept, recv-kept, park-kept}
-use Rattle.ipc.proofs.AfterSend.{send-accepts}
-use Rattle.ipc.proofs.AfterReceive as receives
-use Rattle.ipc.proofs.AfterPark as parks
-use Rattle.ipc.proofs.AfterRegister as registers
+use Rattle.ipc_rules.specs.State.{nobody}
+use Rattle.ipc_rules.specs.Sound.{Sound}
+use Rattle.ipc_rules.specs.Counts.{raised}
+use Rattle.ipc_rules.specs.Opening.{openingOf, holdOf}
+use Rattle.ipc_rules.specs.Send.{sendOf}
+use Rattle.ipc_rules.specs.Receive.{recvOf, parkOf, waiting}
+use Rattle.ipc_rules.specs.Holds.{registerOf}
+use Rattle.ipc_rules.specs.Views.{queueOf, waiterOf, holdsOf, ephemeralOf, heldIn, raisedBy, Steady}
+use Rattle.ipc_rules.specs.declared.state.Channel.{Channel}
+use Rattle.ipc_rules.specs.declared.state.Message.{Message}
+use Rattle.ipc_rules.specs.declared.state.TaskId.{TaskId}
+use Rattle.ipc_rules.specs.declared.state.Waiter.{Waiter}
+use Rattle.ipc_rules.specs.declared.state.Table.{Table}
+use Rattle.ipc_rules.specs.declared.answers.SendAnswer.the-variants.{Sent}
+use Rattle.ipc_rules.specs.declared.answers.RecvAnswer.the-variants.{Received}
+use Rattle.ipc_rules.specs.declared.answers.ParkAnswer.the-variants.{Parked, Given}
+use Rattle.ipc_rules.specs.declared.answers.RegisterAnswer.the-variants.{Registered}
+use Rattle.ipc_rules.specs.declared.opening.Opening.the-variants.{Opens}
+use Rattle.ipc_rules.proofs.Held.{held-one}
+use Rattle.ipc_rules.proofs.KeepsCalls.{send-kept, recv-kept, park-kept}
+use Rattle.ipc_rules.proofs.AfterSend.{send-accepts}
+use Rattle.ipc_rules.proofs.AfterReceive as receives
+use Rattle.ipc_rules.proofs.AfterPark as parks
+use Rattle.ipc_rules.proofs.AfterRegister as registers
 use Rattle.history.specs.Calls.{register, after}
 use Rattle.history.proofs.Kept.{after-sound}
 

@@ -10,27 +10,27 @@ use Rattle.cap.specs.Id.{idOf, indexOf}
 use Rattle.cap.specs.Rights.{sendRight}
 use Rattle.cap.specs.Word.{slotsOf}
 use Rattle.cap.specs.declared.CapId.{CapId}
-use Rattle.ipc.specs.State.{endpointAt}
-use Rattle.ipc.specs.Sound.{Sound}
-use Rattle.ipc.specs.Create.{createOf}
-use Rattle.ipc.specs.Holds.{registerOf, releaseOf}
-use Rattle.ipc.specs.Revoke.{revokeOf}
-use Rattle.ipc.specs.Views.{Steady}
-use Rattle.ipc.specs.declared.state.Table.{Table}
-use Rattle.ipc.specs.declared.answers.Creation.{Creation}
-use Rattle.ipc.specs.declared.answers.Registering.{Registering}
-use Rattle.ipc.specs.declared.answers.Revoking.{Revoking}
-use Rattle.ipc.proofs.Openings.{opened-of}
-use Rattle.ipc.proofs.Changes.{steady-same}
-use Rattle.ipc.proofs.AfterSend.{send-steady}
-use Rattle.ipc.proofs.AfterReceive.{recv-steady}
-use Rattle.ipc.proofs.AfterPark.{park-steady}
-use Rattle.ipc.proofs.AfterRegister.{registered-in}
-use Rattle.ipc.proofs.AfterReleaseAll.{released-in}
-use Rattle.ipc.proofs.AfterRevoke.{RevokeWays, bad-cap, revoked, revoke-ways}
-use Rattle.ipc.proofs.AfterClear.{clear-clears}
-use Rattle.ipc.proofs.AfterCounts.{authority-only, note-authority-only, note-state-only}
-use Rattle.ipc.proofs.AfterCreate.{Creates, CreateWays, no-mailbox, no-endpoint, created, create-ways}
+use Rattle.ipc_rules.specs.State.{endpointAt}
+use Rattle.ipc_rules.specs.Sound.{Sound}
+use Rattle.ipc_rules.specs.Create.{createOf}
+use Rattle.ipc_rules.specs.Holds.{registerOf, releaseOf}
+use Rattle.ipc_rules.specs.Revoke.{revokeOf}
+use Rattle.ipc_rules.specs.Views.{Steady}
+use Rattle.ipc_rules.specs.declared.state.Table.{Table}
+use Rattle.ipc_rules.specs.declared.answers.Creation.{Creation}
+use Rattle.ipc_rules.specs.declared.answers.Registering.{Registering}
+use Rattle.ipc_rules.specs.declared.answers.Revoking.{Revoking}
+use Rattle.ipc_rules.proofs.Openings.{opened-of}
+use Rattle.ipc_rules.proofs.Changes.{steady-same}
+use Rattle.ipc_rules.proofs.AfterSend.{send-steady}
+use Rattle.ipc_rules.proofs.AfterReceive.{recv-steady}
+use Rattle.ipc_rules.proofs.AfterPark.{park-steady}
+use Rattle.ipc_rules.proofs.AfterRegister.{registered-in}
+use Rattle.ipc_rules.proofs.AfterReleaseAll.{released-in}
+use Rattle.ipc_rules.proofs.AfterRevoke.{RevokeWays, bad-cap, revoked, revoke-ways}
+use Rattle.ipc_rules.proofs.AfterClear.{clear-clears}
+use Rattle.ipc_rules.proofs.AfterCounts.{authority-only, note-authority-only, note-state-only}
+use Rattle.ipc_rules.proofs.AfterCreate.{Creates, CreateWays, no-mailbox, no-endpoint, created, create-ways}
 use Rattle.history.specs.Calls.{Call, create, send, receive, park, queued, revoke, register, release, holders, clear, noteAuthority, noteState, counts, fourSlots, answer, after}
 use Rattle.history.specs.World.{World, but, ifCreated, onCreation, settled, born, step}
 use Rattle.history.proofs.Shrinks.{Shrinks, steady-shrinks}
@@ -56,10 +56,10 @@ module _ (w : World) (b : Bool) (k s r : ℕ) (x : Creates (w .table) b k s r (c
   abbrev u : Table
   u = createOf (w .table) b .table
 
-  named : endpointAt u (indexOf (idOf s (w .table .«next_gen»))) .mailbox ≡ k
-  named = opened-of u (idOf s (w .table .«next_gen»)) sendRight k (x .openings .sends) .names
+  named : endpointAt u (indexOf (idOf s (w .table .counters .«next_gen»))) .mailbox ≡ k
+  named = opened-of u (idOf s (w .table .counters .«next_gen»)) sendRight k (x .openings .sends) .names
 
-  born-births : Births w b k s r (born w u (idOf s (w .table .«next_gen»)))
+  born-births : Births w b k s r (born w u (idOf s (w .table .counters .«next_gen»)))
   unfolding but pick
   born-births = record { makes = x; table = refl; made = refl; tenant = rw (named, eq-eqb k k refl); others = λ j ne. rw (named, ne-eqb j k ne) }
 

@@ -15,20 +15,20 @@ use Rattle.cap.specs.declared.CapId.{CapId}
 use Rattle.cap.specs.declared.CapRights.{CapRights}
 use Rattle.cap.proofs.Ids.{generation-of-id}
 use Rattle.mint.specs.Generation.{nextGeneration}
-use Rattle.ipc.specs.State.{mailboxLive}
-use Rattle.ipc.specs.Sound.{Sound}
-use Rattle.ipc.specs.Create.{createOf}
-use Rattle.ipc.specs.Make.{freshOf, inRange}
-use Rattle.ipc.specs.Opening.{openingOf}
-use Rattle.ipc.specs.declared.state.Mailbox.{Mailbox}
-use Rattle.ipc.specs.declared.state.Sizes.{Sizes}
-use Rattle.ipc.specs.declared.state.Table.{Table}
-use Rattle.ipc.specs.declared.opening.Opening.the-variants.{Opens, Shut}
-use Rattle.ipc.proofs.Fresh.{in-range-of, fresh-sound}
-use Rattle.ipc.proofs.Openings.{opens-live}
-use Rattle.ipc.proofs.KeepsCreate.{create-kept}
-use Rattle.ipc.proofs.NewChannel.{NewId}
-use Rattle.ipc.proofs.AfterNew.{fresh-shut, fresh-box}
+use Rattle.ipc_rules.specs.State.{mailboxLive}
+use Rattle.ipc_rules.specs.Sound.{Sound}
+use Rattle.ipc_rules.specs.Create.{createOf}
+use Rattle.ipc_rules.specs.Make.{freshOf, inRange}
+use Rattle.ipc_rules.specs.Opening.{openingOf}
+use Rattle.ipc_rules.specs.declared.state.Mailbox.{Mailbox}
+use Rattle.ipc_rules.specs.declared.state.Sizes.{Sizes}
+use Rattle.ipc_rules.specs.declared.state.Table.{Table}
+use Rattle.ipc_rules.specs.declared.opening.Opening.the-variants.{Opens, Shut}
+use Rattle.ipc_rules.proofs.Fresh.{in-range-of, fresh-sound}
+use Rattle.ipc_rules.proofs.Openings.{opens-live}
+use Rattle.ipc_rules.proofs.KeepsCreate.{create-kept}
+use Rattle.ipc_rules.proofs.NewChannel.{NewId}
+use Rattle.ipc_rules.proofs.AfterNew.{fresh-shut, fresh-box}
 use Rattle.history.specs.Calls.{Call, after}
 use Rattle.history.specs.World.{World, settled, step, run, start, Reached, fresh, then}
 use Rattle.history.specs.Channels.{LivesIn}
@@ -42,7 +42,7 @@ genOf n = (n - 1) % 65535 + 1
 
 pub record Tidy (w : World) : Type 0 where
   pub sound : Sound (w .table)
-  pub next : w .table .«next_gen» ≡ genOf (suc (w .made))
+  pub next : w .table .counters .«next_gen» ≡ genOf (suc (w .made))
   pub generation : (c : CapId) (need : CapRights) (k : ℕ) → openingOf (w .table) c need ≡ Opens k → generationOf c ≡ genOf (w .tenant k)
   -- a live mailbox has the number of a channel that was made, and no other has the same
   pub first : (k : ℕ) → mailboxLive (w .table) k ≡ true → 1 ≤ w .tenant k
@@ -108,12 +108,12 @@ module _ (w v : World) (b : Bool) (k s r : ℕ) (τ : Tidy w) (β : Births w b k
   each P new old j l = ⊎-elim (λ e. rw e new) (λ ne. old j (was-live j ne l)) (same? j k)
 
   -- a new id has the generation that was the next
-  new-generation : (c : CapId) (need : CapRights) → NewId t s r c need → generationOf c ≡ t .«next_gen»
+  new-generation : (c : CapId) (need : CapRights) → NewId t s r c need → generationOf c ≡ t .counters .«next_gen»
   new-generation c need x =
       let f = β .makes .took in
       let z = τ .sound .sizes in
-      ⊎-elim (λ p. ap generationOf (p .0) ∙ generation-of-id s (t .«next_gen») (omega arith))
-      (λ p. ap generationOf (p .0) ∙ generation-of-id r (t .«next_gen») (omega arith)) (x .is)
+      ⊎-elim (λ p. ap generationOf (p .0) ∙ generation-of-id s (t .counters .«next_gen») (omega arith))
+      (λ p. ap generationOf (p .0) ∙ generation-of-id r (t .counters .«next_gen») (omega arith)) (x .is)
 
   generations : (c : CapId) (need : CapRights) (j : ℕ) → openingOf u c need ≡ Opens j → generationOf c ≡ genOf (v .tenant j)
   generations c need j e =

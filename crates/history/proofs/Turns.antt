@@ -12,29 +12,29 @@ use Rattle.laws.proofs.Bools.{same?}
 use Rattle.laws.proofs.Cases.{all-pick, not-both}
 use Rattle.cap.specs.Rights.{sendRight, receiveRight}
 use Rattle.cap.specs.declared.CapId.{CapId}
-use Rattle.ipc.specs.State.{mailboxLive}
-use Rattle.ipc.specs.Holds.{releaseOf}
-use Rattle.ipc.specs.Opening.{anyRightOf, opened}
-use Rattle.ipc.specs.Views.{queueOf, ephemeralOf, Alike}
-use Rattle.ipc.specs.declared.state.Message.{Message}
-use Rattle.ipc.specs.declared.state.TaskId.{TaskId}
-use Rattle.ipc.specs.declared.state.Table.{Table}
-use Rattle.ipc.specs.declared.answers.Sending.{Sending}
-use Rattle.ipc.specs.declared.answers.Receiving.{Receiving}
-use Rattle.ipc.specs.declared.answers.Parking.{Parking}
-use Rattle.ipc.specs.declared.answers.Registering.{Registering}
-use Rattle.ipc.specs.declared.opening.Opening.the-variants.{Opens}
-use Rattle.ipc.proofs.Openings.{opens-live}
-use Rattle.ipc.proofs.Changes.{alike-same}
-use Rattle.ipc.proofs.AfterSend as after-send
-use Rattle.ipc.proofs.AfterReceive as after-recv
-use Rattle.ipc.proofs.AfterPark as after-park
-use Rattle.ipc.proofs.AfterRegister as after-register
-use Rattle.ipc.proofs.AfterReleaseAll.{released-in}
-use Rattle.ipc.proofs.AfterRevoke.{revoke-others}
-use Rattle.ipc.proofs.AfterClear.{clear-clears}
-use Rattle.ipc.proofs.AfterCounts.{authority-only, full-only, state-only, note-authority-only, note-state-only}
-use Rattle.ipc.proofs.AfterCreate.{create-others}
+use Rattle.ipc_rules.specs.State.{mailboxLive}
+use Rattle.ipc_rules.specs.Holds.{releaseOf}
+use Rattle.ipc_rules.specs.Opening.{anyRightOf, opened}
+use Rattle.ipc_rules.specs.Views.{queueOf, ephemeralOf, Alike}
+use Rattle.ipc_rules.specs.declared.state.Message.{Message}
+use Rattle.ipc_rules.specs.declared.state.TaskId.{TaskId}
+use Rattle.ipc_rules.specs.declared.state.Table.{Table}
+use Rattle.ipc_rules.specs.declared.answers.Sending.{Sending}
+use Rattle.ipc_rules.specs.declared.answers.Receiving.{Receiving}
+use Rattle.ipc_rules.specs.declared.answers.Parking.{Parking}
+use Rattle.ipc_rules.specs.declared.answers.Registering.{Registering}
+use Rattle.ipc_rules.specs.declared.opening.Opening.the-variants.{Opens}
+use Rattle.ipc_rules.proofs.Openings.{opens-live}
+use Rattle.ipc_rules.proofs.Changes.{alike-same}
+use Rattle.ipc_rules.proofs.AfterSend as after-send
+use Rattle.ipc_rules.proofs.AfterReceive as after-recv
+use Rattle.ipc_rules.proofs.AfterPark as after-park
+use Rattle.ipc_rules.proofs.AfterRegister as after-register
+use Rattle.ipc_rules.proofs.AfterReleaseAll.{released-in}
+use Rattle.ipc_rules.proofs.AfterRevoke.{revoke-others}
+use Rattle.ipc_rules.proofs.AfterClear.{clear-clears}
+use Rattle.ipc_rules.proofs.AfterCounts.{authority-only, full-only, state-only, note-authority-only, note-state-only}
+use Rattle.ipc_rules.proofs.AfterCreate.{create-others}
 use Rattle.history.specs.Calls.{Call, create, send, receive, park, queued, revoke, register, release, holders, clear, noteAuthority, noteState, counts, fourSlots, answer, after}
 use Rattle.history.specs.World.{World, onCreation, settled, step}
 use Rattle.history.specs.Channels.{LivesIn, leads, on}

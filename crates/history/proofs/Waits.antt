@@ -8,14 +8,14 @@ use native.Mathlib.Omega.{arith}
 use Rattle.laws.proofs.Bools.{either}
 use Rattle.laws.proofs.Cases.{not-both}
 use Rattle.cap.specs.Rights.{receiveRight}
-use Rattle.ipc.specs.State.{nobody, mailboxLive}
-use Rattle.ipc.specs.Receive.{parkOf, waiting}
-use Rattle.ipc.specs.Views.{waiterOf}
-use Rattle.ipc.specs.declared.state.TaskId.{TaskId}
-use Rattle.ipc.specs.declared.state.Waiter.{Waiter}
-use Rattle.ipc.specs.declared.state.Table.{Table}
-use Rattle.ipc.proofs.Openings.{opens-live}
-use Rattle.ipc.proofs.AfterPark as park
+use Rattle.ipc_rules.specs.State.{nobody, mailboxLive}
+use Rattle.ipc_rules.specs.Receive.{parkOf, waiting}
+use Rattle.ipc_rules.specs.Views.{waiterOf}
+use Rattle.ipc_rules.specs.declared.state.TaskId.{TaskId}
+use Rattle.ipc_rules.specs.declared.state.Waiter.{Waiter}
+use Rattle.ipc_rules.specs.declared.state.Table.{Table}
+use Rattle.ipc_rules.proofs.Openings.{opens-live}
+use Rattle.ipc_rules.proofs.AfterPark as park
 use Rattle.history.specs.Calls as call
 use Rattle.history.specs.Calls.{Call, answer, after}
 use Rattle.history.specs.World.{World, step, run, Reached, then}

@@ -15,37 +15,37 @@ use Rattle.laws.proofs.Every.{and-left, and-right, and-both}
 use Rattle.cap.specs.Rights.{sendRight}
 use Rattle.cap.specs.declared.CapId.{CapId}
 use Rattle.cap.specs.declared.slot.Slot.{Slot}
-use Rattle.ipc.specs.State.{nobody, mailboxLive}
-use Rattle.ipc.specs.Opening.{opened}
-use Rattle.ipc.specs.Answers.{sendNumber}
-use Rattle.ipc.specs.Receive.{sameTask, waiting}
-use Rattle.ipc.specs.Holds.{fourOf, releaseOf, releasedAll}
-use Rattle.ipc.specs.Waiters.{clearOf}
-use Rattle.ipc.specs.Views.{waiterOf, holdsOf, ephemeralOf, heldIn, Alike}
-use Rattle.ipc.specs.declared.state.Message.{Message}
-use Rattle.ipc.specs.declared.state.TaskId.{TaskId}
-use Rattle.ipc.specs.declared.state.Waiter.{Waiter}
-use Rattle.ipc.specs.declared.state.Table.{Table}
-use Rattle.ipc.specs.declared.answers.Sending.{Sending}
-use Rattle.ipc.specs.declared.answers.SendAnswer.the-variants.{Sent}
-use Rattle.ipc.specs.declared.answers.Receiving.{Receiving}
-use Rattle.ipc.specs.declared.answers.Parking.{Parking}
-use Rattle.ipc.specs.declared.answers.Registering.{Registering}
-use Rattle.ipc.specs.declared.answers.ReleaseAnswer.the-variants.{Released}
-use Rattle.ipc.specs.declared.answers.Revoking.{Revoking}
-use Rattle.ipc.specs.declared.answers.RevokeAnswer.the-variants.{Revoked}
-use Rattle.ipc.specs.declared.opening.Opening.the-variants.{Opens, Shut}
-use Rattle.ipc.proofs.Openings.{opens-live}
-use Rattle.ipc.proofs.Tasks.{same-task, task-same}
-use Rattle.ipc.proofs.AfterSend as send
-use Rattle.ipc.proofs.AfterReceive as recv
-use Rattle.ipc.proofs.AfterPark as park
-use Rattle.ipc.proofs.AfterRegister as register
-use Rattle.ipc.proofs.AfterRevoke as revoke
-use Rattle.ipc.proofs.AfterReleaseAll.{released-in}
-use Rattle.ipc.proofs.AfterClear.{clear-clears}
-use Rattle.ipc.proofs.AfterCounts.{authority-only, full-only, state-only, note-authority-only, note-state-only}
-use Rattle.ipc.proofs.AfterCreate.{create-others}
+use Rattle.ipc_rules.specs.State.{nobody, mailboxLive}
+use Rattle.ipc_rules.specs.Opening.{opened}
+use Rattle.ipc_rules.specs.Answers.{sendNumber}
+use Rattle.ipc_rules.specs.Receive.{sameTask, waiting}
+use Rattle.ipc_rules.specs.Holds.{fourOf, releaseOf, releasedAll}
+use Rattle.ipc_rules.specs.Waiters.{clearOf}
+use Rattle.ipc_rules.specs.Views.{waiterOf, holdsOf, ephemeralOf, heldIn, Alike}
+use Rattle.ipc_rules.specs.declared.state.Message.{Message}
+use Rattle.ipc_rules.specs.declared.state.TaskId.{TaskId}
+use Rattle.ipc_rules.specs.declared.state.Waiter.{Waiter}
+use Rattle.ipc_rules.specs.declared.state.Table.{Table}
+use Rattle.ipc_rules.specs.declared.answers.Sending.{Sending}
+use Rattle.ipc_rules.specs.declared.answers.SendAnswer.the-variants.{Sent}
+use Rattle.ipc_rules.specs.declared.answers.Receiving.{Receiving}
+use Rattle.ipc_rules.specs.declared.answers.Parking.{Parking}
+use Rattle.ipc_rules.specs.declared.answers.Registering.{Registering}
+use Rattle.ipc_rules.specs.declared.answers.ReleaseAnswer.the-variants.{Released}
+use Rattle.ipc_rules.specs.declared.answers.Revoking.{Revoking}
+use Rattle.ipc_rules.specs.declared.answers.RevokeAnswer.the-variants.{Revoked}
+use Rattle.ipc_rules.specs.declared.opening.Opening.the-variants.{Opens, Shut}
+use Rattle.ipc_rules.proofs.Openings.{opens-live}
+use Rattle.ipc_rules.proofs.Tasks.{same-task, task-same}
+use Rattle.ipc_rules.proofs.AfterSend as send
+use Rattle.ipc_rules.proofs.AfterReceive as recv
+use Rattle.ipc_rules.proofs.AfterPark as park
+use Rattle.ipc_rules.proofs.AfterRegister as register
+use Rattle.ipc_rules.proofs.AfterRevoke as revoke
+use Rattle.ipc_rules.proofs.AfterReleaseAll.{released-in}
+use Rattle.ipc_rules.proofs.AfterClear.{clear-clears}
+use Rattle.ipc_rules.proofs.AfterCounts.{authority-only, full-only, state-only, note-authority-only, note-state-only}
+use Rattle.ipc_rules.proofs.AfterCreate.{create-others}
 use Rattle.history.specs.Calls as call
 use Rattle.history.specs.Calls.{Call, answer, after, fourSlots}
 use Rattle.history.specs.World.{World}

@@ -13,21 +13,21 @@ use Rattle.laws.proofs.Bools.{either, same?, and-three}
 use Rattle.laws.proofs.Cases.{all-pick, not-both}
 use Rattle.laws.proofs.Every.{and-right, and-both}
 use Rattle.cap.specs.declared.slot.Slot.{Slot}
-use Rattle.ipc.specs.State.{nobody}
-use Rattle.ipc.specs.Sound.{Sound}
-use Rattle.ipc.specs.Opening.{holdOf, opened}
-use Rattle.ipc.specs.Holds.{released, releasedAll, Freed}
-use Rattle.ipc.specs.Views.{waiterOf, holdsOf, ephemeralOf, heldBy, heldIn, Steady}
-use Rattle.ipc.specs.declared.state.Waiter.{Waiter}
-use Rattle.ipc.specs.declared.state.Table.{Table}
-use Rattle.ipc.specs.declared.opening.Opening.the-variants.{Opens, Shut}
-use Rattle.ipc.proofs.Changes.{steady-same, steady-then}
-use Rattle.ipc.proofs.Held.{held-none, held-one, held-other}
-use Rattle.ipc.proofs.KeepsCalls.{released-kept}
-use Rattle.ipc.proofs.Openings.{all-opened}
-use Rattle.ipc.proofs.OtherOpenings.{hold-steady}
-use Rattle.ipc.proofs.AfterRelease.{Reaps, ReleaseWays, skipped, kept, woke, release-ways, release-steady}
-use Rattle.ipc.proofs.AfterReleaseAll.{ReleasedAt, released-in}
+use Rattle.ipc_rules.specs.State.{nobody}
+use Rattle.ipc_rules.specs.Sound.{Sound}
+use Rattle.ipc_rules.specs.Opening.{holdOf, opened}
+use Rattle.ipc_rules.specs.Holds.{released, releasedAll, Freed}
+use Rattle.ipc_rules.specs.Views.{waiterOf, holdsOf, ephemeralOf, heldBy, heldIn, Steady}
+use Rattle.ipc_rules.specs.declared.state.Waiter.{Waiter}
+use Rattle.ipc_rules.specs.declared.state.Table.{Table}
+use Rattle.ipc_rules.specs.declared.opening.Opening.the-variants.{Opens, Shut}
+use Rattle.ipc_rules.proofs.Changes.{steady-same, steady-then}
+use Rattle.ipc_rules.proofs.Held.{held-none, held-one, held-other}
+use Rattle.ipc_rules.proofs.KeepsCalls.{released-kept}
+use Rattle.ipc_rules.proofs.Openings.{all-opened}
+use Rattle.ipc_rules.proofs.OtherOpenings.{hold-steady}
+use Rattle.ipc_rules.proofs.AfterRelease.{Reaps, ReleaseWays, skipped, kept, woke, release-ways, release-steady}
+use Rattle.ipc_rules.proofs.AfterReleaseAll.{ReleasedAt, released-in}
 use Rattle.history.specs.Waits.{takesLast, waitsEnded, turnOf}
 
 -- ---- the table behind the slots xs

@@ -6,30 +6,30 @@ use lib.ListN.{getD}
 use Rattle.cap.specs.Slot.{vacant}
 use Rattle.cap.specs.declared.CapId.{CapId}
 use Rattle.cap.specs.declared.slot.Slot.{Slot}
-use Rattle.ipc.specs.Counts.{noteAuthorityOf, noteStateOf}
-use Rattle.ipc.specs.Create.{createOf}
-use Rattle.ipc.specs.Send.{sendOf}
-use Rattle.ipc.specs.Receive.{recvOf, parkOf}
-use Rattle.ipc.specs.Observe.{queuedOf, holdersOf, refusalsOf}
-use Rattle.ipc.specs.Holds.{registerOf, releaseOf}
-use Rattle.ipc.specs.Revoke.{revokeOf}
-use Rattle.ipc.specs.Waiters.{clearOf}
-use Rattle.ipc.specs.declared.state.Message.{Message}
-use Rattle.ipc.specs.declared.state.TaskId.{TaskId}
-use Rattle.ipc.specs.declared.state.Waiter.{Waiter}
-use Rattle.ipc.specs.declared.state.Table.{Table}
-use Rattle.ipc.specs.declared.answers.CreateAnswer.{CreateAnswer}
-use Rattle.ipc.specs.declared.answers.SendAnswer.{SendAnswer}
-use Rattle.ipc.specs.declared.answers.RecvAnswer.{RecvAnswer}
-use Rattle.ipc.specs.declared.answers.ParkAnswer.{ParkAnswer}
-use Rattle.ipc.specs.declared.answers.QueuedAnswer.{QueuedAnswer}
-use Rattle.ipc.specs.declared.answers.HoldersAnswer.{HoldersAnswer}
-use Rattle.ipc.specs.declared.answers.RegisterAnswer.{RegisterAnswer}
-use Rattle.ipc.specs.declared.answers.ReleaseAnswer.{ReleaseAnswer}
-use Rattle.ipc.specs.declared.answers.RevokeAnswer.{RevokeAnswer}
-use Rattle.ipc.specs.declared.answers.ClearAnswer.{ClearAnswer}
-use Rattle.ipc.specs.declared.answers.NoteAnswer.{NoteAnswer}
-use Rattle.ipc.specs.declared.answers.RefusalsAnswer.{RefusalsAnswer}
+use Rattle.ipc_rules.specs.Counts.{noteAuthorityOf, noteStateOf}
+use Rattle.ipc_rules.specs.Create.{createOf}
+use Rattle.ipc_rules.specs.Send.{sendOf}
+use Rattle.ipc_rules.specs.Receive.{recvOf, parkOf}
+use Rattle.ipc_rules.specs.Observe.{queuedOf, holdersOf, refusalsOf}
+use Rattle.ipc_rules.specs.Holds.{registerOf, releaseOf}
+use Rattle.ipc_rules.specs.Revoke.{revokeOf}
+use Rattle.ipc_rules.specs.Waiters.{clearOf}
+use Rattle.ipc_rules.specs.declared.state.Message.{Message}
+use Rattle.ipc_rules.specs.declared.state.TaskId.{TaskId}
+use Rattle.ipc_rules.specs.declared.state.Waiter.{Waiter}
+use Rattle.ipc_rules.specs.declared.state.Table.{Table}
+use Rattle.ipc_rules.specs.declared.answers.CreateAnswer.{CreateAnswer}
+use Rattle.ipc_rules.specs.declared.answers.SendAnswer.{SendAnswer}
+use Rattle.ipc_rules.specs.declared.answers.RecvAnswer.{RecvAnswer}
+use Rattle.ipc_rules.specs.declared.answers.ParkAnswer.{ParkAnswer}
+use Rattle.ipc_rules.specs.declared.answers.QueuedAnswer.{QueuedAnswer}
+use Rattle.ipc_rules.specs.declared.answers.HoldersAnswer.{HoldersAnswer}
+use Rattle.ipc_rules.specs.declared.answers.RegisterAnswer.{RegisterAnswer}
+use Rattle.ipc_rules.specs.declared.answers.ReleaseAnswer.{ReleaseAnswer}
+use Rattle.ipc_rules.specs.declared.answers.RevokeAnswer.{RevokeAnswer}
+use Rattle.ipc_rules.specs.declared.answers.ClearAnswer.{ClearAnswer}
+use Rattle.ipc_rules.specs.declared.answers.NoteAnswer.{NoteAnswer}
+use Rattle.ipc_rules.specs.declared.answers.RefusalsAnswer.{RefusalsAnswer}
 
 -- a register has a list as words, any length; a release has exactly four places
 pub data Call : Type 0 where

@@ -6,9 +6,9 @@ use lib.Dec.{eqb}
 use Rattle.cap.specs.declared.CapId.{CapId}
 use Rattle.cap.specs.declared.CapRights.{CapRights}
 use Rattle.cap.specs.declared.slot.Slot.{Slot}
-use Rattle.ipc.specs.State.{mailboxLive}
-use Rattle.ipc.specs.Opening.{openingOf, eitherOf, anyRightOf, holdOf, opened}
-use Rattle.ipc.specs.declared.opening.Opening.{Opening}
+use Rattle.ipc_rules.specs.State.{mailboxLive}
+use Rattle.ipc_rules.specs.Opening.{openingOf, eitherOf, anyRightOf, holdOf, opened}
+use Rattle.ipc_rules.specs.declared.opening.Opening.{Opening}
 use Rattle.history.specs.World.{World}
 
 -- channel n lives in mailbox k

@@ -19,9 +19,9 @@ use Rattle.irqcap.specs.declared.Table.{Table}
 use Rattle.manifest.specs.Bind.{bindOf, bindNumber, bindValues}
 use Rattle.manifest.specs.declared.AgentEntry.{AgentEntry}
 use Rattle.manifest.specs.declared.Want.{Want}
-use Rattle.ipc.specs.Make.{freshOf, sizesOf}
-use Rattle.ipc.specs.Create.{createOf}
-use Rattle.ipc.specs.Answers.{createNumber}
+use Rattle.ipc_rules.specs.Make.{freshOf, sizesOf}
+use Rattle.ipc_rules.specs.Create.{createOf}
+use Rattle.ipc_rules.specs.Answers.{createNumber}
 
 -- what the rules give, and what the document says
 pub record Edge : Type 0 where

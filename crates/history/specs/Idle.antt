@@ -12,16 +12,16 @@ use mathlib.Core.List.{List, [], _∷_}
 use Prim.Native.Nat.{ℕ}
 use Rattle.cap.specs.Slot.{holding}
 use Rattle.cap.specs.Word.{wordOf}
-use Rattle.ipc.specs.State.{nobody}
-use Rattle.ipc.specs.Make.{sizesOf}
-use Rattle.ipc.specs.Receive.{waiting}
-use Rattle.ipc.specs.declared.state.Channel.{Channel}
-use Rattle.ipc.specs.declared.state.Message.{Message}
-use Rattle.ipc.specs.declared.state.TaskId.{TaskId}
-use Rattle.ipc.specs.declared.answers.SendAnswer.the-variants.{Sent}
-use Rattle.ipc.specs.declared.answers.RecvAnswer.the-variants.{Received}
-use Rattle.ipc.specs.declared.answers.ParkAnswer.the-variants.{Parked, Given}
-use Rattle.ipc.specs.declared.answers.RegisterAnswer.the-variants.{Registered}
+use Rattle.ipc_rules.specs.State.{nobody}
+use Rattle.ipc_rules.specs.Make.{sizesOf}
+use Rattle.ipc_rules.specs.Receive.{waiting}
+use Rattle.ipc_rules.specs.declared.state.Channel.{Channel}
+use Rattle.ipc_rules.specs.declared.state.Message.{Message}
+use Rattle.ipc_rules.specs.declared.state.TaskId.{TaskId}
+use Rattle.ipc_rules.specs.declared.answers.SendAnswer.the-variants.{Sent}
+use Rattle.ipc_rules.specs.declared.answers.RecvAnswer.the-variants.{Received}
+use Rattle.ipc_rules.specs.declared.answers.ParkAnswer.the-variants.{Parked, Given}
+use Rattle.ipc_rules.specs.declared.answers.RegisterAnswer.the-variants.{Registered}
 use Rattle.history.specs.Calls.{Call, create, send, receive, park, register, Answer, sent, received, parked, registered}
 use Rattle.history.specs.World.{World, step, answers, start, Reached}
 use Rattle.history.specs.Ids.{Makes}

@@ -18,12 +18,12 @@ use Rattle.cap.specs.Rights.{sendRight, receiveRight}
 use Rattle.cap.specs.declared.CapId.{CapId}
 use Rattle.cap.specs.declared.CapRights.{CapRights}
 use Rattle.cap.specs.declared.slot.Slot.{Slot}
-use Rattle.ipc.specs.Opening.{openingOf, eitherOf, anyRightOf, holdOf}
-use Rattle.ipc.specs.declared.state.Channel.{Channel}
-use Rattle.ipc.specs.declared.state.Waiter.{Waiter}
-use Rattle.ipc.specs.declared.answers.CreateAnswer.the-variants.{Created}
-use Rattle.ipc.specs.declared.answers.RevokeAnswer.the-variants.{Revoked}
-use Rattle.ipc.specs.declared.opening.Opening.the-variants.{Opens, Shut}
+use Rattle.ipc_rules.specs.Opening.{openingOf, eitherOf, anyRightOf, holdOf}
+use Rattle.ipc_rules.specs.declared.state.Channel.{Channel}
+use Rattle.ipc_rules.specs.declared.state.Waiter.{Waiter}
+use Rattle.ipc_rules.specs.declared.answers.CreateAnswer.the-variants.{Created}
+use Rattle.ipc_rules.specs.declared.answers.RevokeAnswer.the-variants.{Revoked}
+use Rattle.ipc_rules.specs.declared.opening.Opening.the-variants.{Opens, Shut}
 use Rattle.history.specs.Calls.{Call, create, revoke, created, revoked, answer}
 use Rattle.history.specs.World.{World, step, run, Reached}
 use Rattle.history.specs.Channels.{LivesIn}

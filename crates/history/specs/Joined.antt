@@ -13,9 +13,9 @@ use Rattle.cap.specs.declared.CapId.{CapId}
 use Rattle.capslots.specs.Rows.{drainOf}
 use Rattle.capslots.specs.Table.{Shape}
 use Rattle.capslots.specs.declared.Table.{Table as Rows}
-use Rattle.ipc.specs.declared.state.Table.{Table}
-use Rattle.ipc.specs.declared.answers.RegisterAnswer.the-variants.{Registered}
-use Rattle.ipc.specs.declared.answers.ReleaseAnswer.the-variants.{Released}
+use Rattle.ipc_rules.specs.declared.state.Table.{Table}
+use Rattle.ipc_rules.specs.declared.answers.RegisterAnswer.the-variants.{Registered}
+use Rattle.ipc_rules.specs.declared.answers.ReleaseAnswer.the-variants.{Released}
 use Rattle.joined.specs.Answers.{spawnNumber, leaveNumber, giveNumber}
 use Rattle.joined.specs.Steps.{spawnOf, leaveOf, giveOf}
 use Rattle.joined.specs.declared.answers.SpawnAnswer.the-variants.{Spawned}

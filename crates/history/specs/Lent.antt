@@ -7,7 +7,7 @@ use lib.ListN.{getD}
 use Rattle.cap.specs.Slot.{vacant}
 use Rattle.cap.specs.Word.{wordOf}
 use Rattle.cap.specs.declared.slot.Slot.{Slot}
-use Rattle.ipc.specs.State.{withRefusals}
+use Rattle.ipc_rules.specs.State.{withRefusals}
 use Rattle.lent.specs.Counts.{authorityNoted, stateNoted}
 use Rattle.lent.specs.Holds.{registerSlots}
 use Rattle.history.specs.Calls.{Call, register, noteAuthority, noteState, registered, answer}
@@ -31,8 +31,8 @@ LentCalls = (w : World) → Reached w → (slots : List Slot) → Fit slots → 
 
 -- a note call leaves the world with its counts as the lent ones are left
 pub record NotesServed (w : World) : Type 0 where
-  pub authority : step w noteAuthority ≡ settled w (withRefusals (w .table) (authorityNoted (w .table .refusals)))
-  pub state : step w noteState ≡ settled w (withRefusals (w .table) (stateNoted (w .table .refusals)))
+  pub authority : step w noteAuthority ≡ settled w (withRefusals (w .table) (authorityNoted (w .table .counters .refusals)))
+  pub state : step w noteState ≡ settled w (withRefusals (w .table) (stateNoted (w .table .counters .refusals)))
 
 abbrev pub LentNotes : Type 0
 LentNotes = (w : World) → NotesServed w

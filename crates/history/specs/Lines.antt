@@ -6,12 +6,12 @@ use Prim.Native.Nat.{ℕ, _<_}
 use lib.ListN.{getD}
 use Rattle.laws.specs.Refusals as no
 use Rattle.capslots.specs.Rows.{drainOf}
-use Rattle.ipc.specs.State.{nobody}
-use Rattle.ipc.specs.Answers.{fourWaiterValues}
-use Rattle.ipc.specs.Receive.{waiting}
-use Rattle.ipc.specs.declared.state.Message.{Message}
-use Rattle.ipc.specs.declared.state.TaskId.{TaskId}
-use Rattle.ipc.specs.declared.state.Waiter.{Waiter}
+use Rattle.ipc_rules.specs.State.{nobody}
+use Rattle.ipc_rules.specs.Answers.{fourWaiterValues}
+use Rattle.ipc_rules.specs.Receive.{waiting}
+use Rattle.ipc_rules.specs.declared.state.Message.{Message}
+use Rattle.ipc_rules.specs.declared.state.TaskId.{TaskId}
+use Rattle.ipc_rules.specs.declared.state.Waiter.{Waiter}
 use Rattle.logread.specs.Little.{byteAt}
 use Rattle.logread.specs.Lists.{listSlots}
 use Rattle.operations.specs.Done.{Done}

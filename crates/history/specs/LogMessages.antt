@@ -7,8 +7,8 @@ use mathlib.Core.List.{List, [], _∷_, _++_}
 use Prim.Native.Nat.{ℕ}
 use lib.ListN.{length}
 use Rattle.laws.specs.Refusals as no
-use Rattle.ipc.specs.Views.{queueOf}
-use Rattle.ipc.specs.declared.state.Message.{Message}
+use Rattle.ipc_rules.specs.Views.{queueOf}
+use Rattle.ipc_rules.specs.declared.state.Message.{Message}
 use Rattle.operations.specs.Operands.{idAt, messageAt}
 use Rattle.history.specs.Traffic.{allAccepted, allGiven, Spares}
 use Rattle.history.specs.Messages.{AcceptedBehind}

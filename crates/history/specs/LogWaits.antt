@@ -8,7 +8,7 @@ use mathlib.Core.List.{List, [], _∷_, _++_}
 use mathlib.Core.Logic.{_⊎_}
 use Prim.Native.Nat.{ℕ}
 use Rattle.laws.specs.Refusals as no
-use Rattle.ipc.specs.declared.state.TaskId.{TaskId}
+use Rattle.ipc_rules.specs.declared.state.TaskId.{TaskId}
 use Rattle.operations.specs.Operands.{taskAt}
 use Rattle.history.specs.Waits.{Waits, Quiet, First}
 use Rattle.history.specs.Operations.{Operation, callsOf, Logged, operate, operated, beginning, lasting, callsOver}

@@ -21,17 +21,17 @@ use Prim.Native.Nat.{ℕ, _+_, _-_, _≤_, _<_}
 use lib.ListN.{getD, length}
 use Rattle.cap.specs.Rights.{sendRight, receiveRight}
 use Rattle.cap.specs.declared.CapId.{CapId}
-use Rattle.ipc.specs.State.{freshMessage}
-use Rattle.ipc.specs.Send.{sendOf}
-use Rattle.ipc.specs.Receive.{recvOf, parkOf}
-use Rattle.ipc.specs.Views.{queueOf}
-use Rattle.ipc.specs.declared.state.Channel.{Channel}
-use Rattle.ipc.specs.declared.state.Message.{Message}
-use Rattle.ipc.specs.declared.state.TaskId.{TaskId}
-use Rattle.ipc.specs.declared.state.Waiter.{Waiter}
-use Rattle.ipc.specs.declared.answers.SendAnswer.the-variants.{Sent}
-use Rattle.ipc.specs.declared.answers.RecvAnswer.the-variants.{Received}
-use Rattle.ipc.specs.declared.answers.ParkAnswer.the-variants.{Given}
+use Rattle.ipc_rules.specs.State.{freshMessage}
+use Rattle.ipc_rules.specs.Send.{sendOf}
+use Rattle.ipc_rules.specs.Receive.{recvOf, parkOf}
+use Rattle.ipc_rules.specs.Views.{queueOf}
+use Rattle.ipc_rules.specs.declared.state.Channel.{Channel}
+use Rattle.ipc_rules.specs.declared.state.Message.{Message}
+use Rattle.ipc_rules.specs.declared.state.TaskId.{TaskId}
+use Rattle.ipc_rules.specs.declared.state.Waiter.{Waiter}
+use Rattle.ipc_rules.specs.declared.answers.SendAnswer.the-variants.{Sent}
+use Rattle.ipc_rules.specs.declared.answers.RecvAnswer.the-variants.{Received}
+use Rattle.ipc_rules.specs.declared.answers.ParkAnswer.the-variants.{Given}
 use Rattle.history.specs.Calls.{Call, create, send, receive, park}
 use Rattle.history.specs.World.{World, step, run, Reached}
 use Rattle.history.specs.Channels.{LivesIn, on}

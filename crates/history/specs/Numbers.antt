@@ -2,7 +2,7 @@
 -- that it shows.
 use mathlib.Core.List.{List, []}
 use Prim.Native.Nat.{ℕ}
-use Rattle.ipc.specs.Answers.{createNumber, createValues, sendNumber, sendValues, recvNumber, recvValues, parkNumber, parkValues, queuedNumber, queuedValues, revokeNumber, revokeValues, registerNumber, releaseNumber, releaseValues, holdersNumber, holdersValues, clearNumber, clearValues, noteNumber, countsNumber, countsValues}
+use Rattle.ipc_rules.specs.Answers.{createNumber, createValues, sendNumber, sendValues, recvNumber, recvValues, parkNumber, parkValues, queuedNumber, queuedValues, revokeNumber, revokeValues, registerNumber, releaseNumber, releaseValues, holdersNumber, holdersValues, clearNumber, clearValues, noteNumber, countsNumber, countsValues}
 use Rattle.history.specs.Calls.{Answer, created, sent, received, parked, measured, revoked, registered, released, held, cleared, noted, counted}
 
 abbrev pub numberOf : Answer → ℕ

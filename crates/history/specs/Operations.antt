@@ -9,8 +9,8 @@ use lib.Dec.{eqb}
 use lib.ListN.{getD}
 use Rattle.laws.specs.Pick.{pick}
 use Rattle.capslots.specs.Table.{Shape}
-use Rattle.ipc.specs.Make.{inRange, sizesOf}
-use Rattle.ipc.specs.declared.state.Sizes.{Sizes}
+use Rattle.ipc_rules.specs.Make.{inRange, sizesOf}
+use Rattle.ipc_rules.specs.declared.state.Sizes.{Sizes}
 use Rattle.logread.specs.Little.{byteAt}
 use Rattle.logread.specs.Lists.{listSlots, listWords}
 use Rattle.operations.specs.Apply.{applyOf}

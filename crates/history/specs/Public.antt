@@ -1,8 +1,8 @@
 -- The public functions of `ipc` in a run. Each refuses an unsound table with 27 before its rule; no table of a run is one, so that what
 -- holds of the rules over runs holds of the functions.
 use mathlib.Core.Path.{_≡_}
-use Rattle.ipc.specs.Border.{createCall, sendCall, recvCall, parkCall, queuedCall, holdersCall, registerCall, releaseCall, revokeCall, clearCall, noteAuthorityCall, noteStateCall, refusalsCall}
-use Rattle.ipc.specs.declared.state.Table.{Table}
+use Rattle.ipc_sound.specs.Border.{createCall, sendCall, recvCall, parkCall, queuedCall, holdersCall, registerCall, releaseCall, revokeCall, clearCall, noteAuthorityCall, noteStateCall, refusalsCall}
+use Rattle.ipc_rules.specs.declared.state.Table.{Table}
 use Rattle.history.specs.Calls.{Call, create, send, receive, park, queued, revoke, register, release, holders, clear, noteAuthority, noteState, counts, fourSlots, Answer, created, sent, received, parked, measured, revoked, registered, released, held, cleared, noted, counted, answer, after}
 use Rattle.history.specs.World.{World, Reached}
 

@@ -17,21 +17,21 @@ use Rattle.cap.specs.Word.{readWord}
 use Rattle.cap.specs.declared.CapId.{CapId}
 use Rattle.cap.specs.declared.slot.Slot.{Slot}
 use Rattle.cap.specs.declared.word.WordAnswer.the-variants.{Reads}
-use Rattle.ipc.specs.Holds.{registered, registeredAll, Freed, released, releasedAll}
-use Rattle.ipc.specs.Receive.{otherWaits}
-use Rattle.ipc.specs.Views.{queueOf, waiterOf, holdsOf, ephemeralOf, Alike, OnlyMailbox, OnlyCounts}
-use Rattle.ipc.specs.declared.state.Message.{Message}
-use Rattle.ipc.specs.declared.state.TaskId.{TaskId}
-use Rattle.ipc.specs.declared.state.Waiter.{Waiter}
-use Rattle.ipc.specs.declared.state.Table.{Table}
-use Rattle.ipc.specs.declared.answers.SendAnswer.the-variants.{Sent, Full}
-use Rattle.ipc.specs.declared.answers.RecvAnswer.{RecvAnswer}
-use Rattle.ipc.specs.declared.answers.RecvAnswer.the-variants.{Received, Empty}
-use Rattle.ipc.specs.declared.answers.ParkAnswer.{ParkAnswer}
-use Rattle.ipc.specs.declared.answers.ParkAnswer.the-variants.{Parked, Given, Busy, Cancelled}
-use Rattle.ipc.specs.declared.answers.QueuedAnswer.the-variants.{Queued}
-use Rattle.ipc.specs.declared.answers.HoldersAnswer.the-variants.{Holders}
-use Rattle.ipc.specs.declared.answers.RevokeAnswer.the-variants.{Revoked}
+use Rattle.ipc_rules.specs.Holds.{registered, registeredAll, Freed, released, releasedAll}
+use Rattle.ipc_rules.specs.Receive.{otherWaits}
+use Rattle.ipc_rules.specs.Views.{queueOf, waiterOf, holdsOf, ephemeralOf, Alike, OnlyMailbox, OnlyCounts}
+use Rattle.ipc_rules.specs.declared.state.Message.{Message}
+use Rattle.ipc_rules.specs.declared.state.TaskId.{TaskId}
+use Rattle.ipc_rules.specs.declared.state.Waiter.{Waiter}
+use Rattle.ipc_rules.specs.declared.state.Table.{Table}
+use Rattle.ipc_rules.specs.declared.answers.SendAnswer.the-variants.{Sent, Full}
+use Rattle.ipc_rules.specs.declared.answers.RecvAnswer.{RecvAnswer}
+use Rattle.ipc_rules.specs.declared.answers.RecvAnswer.the-variants.{Received, Empty}
+use Rattle.ipc_rules.specs.declared.answers.ParkAnswer.{ParkAnswer}
+use Rattle.ipc_rules.specs.declared.answers.ParkAnswer.the-variants.{Parked, Given, Busy, Cancelled}
+use Rattle.ipc_rules.specs.declared.answers.QueuedAnswer.the-variants.{Queued}
+use Rattle.ipc_rules.specs.declared.answers.HoldersAnswer.the-variants.{Holders}
+use Rattle.ipc_rules.specs.declared.answers.RevokeAnswer.the-variants.{Revoked}
 use Rattle.history.specs.Calls.{Call, send, receive, park, queued, revoke, register, releasing, holders, Answer, sent, received, parked, measured, revoked, held, answer, after}
 use Rattle.history.specs.Numbers.{numberOf, valuesOf}
 use Rattle.history.specs.World.{World}

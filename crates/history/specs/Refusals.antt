@@ -5,9 +5,9 @@ use mathlib.Core.Bool.{Bool, true, false, _||_}
 use Prim.Native.Nat.{ℕ}
 use lib.Dec.{eqb}
 use Rattle.laws.specs.Refusals as no
-use Rattle.ipc.specs.State.{withRefusals}
-use Rattle.ipc.specs.Views.{countsBy}
-use Rattle.ipc.specs.declared.state.Refusals.{Refusals}
+use Rattle.ipc_rules.specs.State.{withRefusals}
+use Rattle.ipc_rules.specs.Views.{countsBy}
+use Rattle.ipc_rules.specs.declared.state.Refusals.{Refusals}
 use Rattle.history.specs.Calls.{Call, create, send, receive, park, queued, revoke, register, release, holders, clear, noteAuthority, noteState, counts, answer}
 use Rattle.history.specs.Numbers.{numberOf}
 use Rattle.history.specs.World.{World, settled, step, Reached}
@@ -47,11 +47,11 @@ countsAfter counts n x = x
 -- the call is refused with n, a listed number, and the world is as it was but for the counts
 pub record Refused (w : World) (call : Call) (n : ℕ) : Type 0 where
   pub given : listed call n ≡ true
-  pub only : step w call ≡ settled w (withRefusals (w .table) (countsAfter call n (w .table .refusals)))
+  pub only : step w call ≡ settled w (withRefusals (w .table) (countsAfter call n (w .table .counters .refusals)))
 
 abbrev pub RefusalsCount : Type 0
 RefusalsCount = (w : World) → Reached w → (call : Call) → (numberOf (answer (w .table) call) ≡ no.accepted → ⊥) → Refused w call (numberOf (answer (w .table) call))
 
 -- and no call invents a count: after each, refused or not, they are what its number makes them
 abbrev pub CountsTold : Type 0
-CountsTold = (w : World) → Reached w → (call : Call) → step w call .table .refusals ≡ countsAfter call (numberOf (answer (w .table) call)) (w .table .refusals)
+CountsTold = (w : World) → Reached w → (call : Call) → step w call .table .counters .refusals ≡ countsAfter call (numberOf (answer (w .table) call)) (w .table .counters .refusals)

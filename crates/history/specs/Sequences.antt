@@ -7,7 +7,7 @@ use Rattle.cap.specs.declared.CapId.{CapId}
 use Rattle.cap.specs.declared.slot.Slot.{Slot}
 use Rattle.capslots.specs.Table.{Shape}
 use Rattle.capslots.specs.declared.Table.{Table as Rows}
-use Rattle.ipc.specs.declared.state.Table.{Table}
+use Rattle.ipc_rules.specs.declared.state.Table.{Table}
 use Rattle.joined.specs.Border.{spawnCall, leaveCall, giveCall}
 use Rattle.joined.specs.Steps.{spawnOf, leaveOf, giveOf}
 use Rattle.lent.specs.Holds.{registerSlots}

@@ -5,12 +5,12 @@ use mathlib.Core.List.{List, [], _∷_, _++_}
 use Prim.Native.Nat.{ℕ}
 use Rattle.laws.specs.Pick.{pick}
 use Rattle.cap.specs.Rights.{sendRight, receiveRight}
-use Rattle.ipc.specs.Send.{sendOf}
-use Rattle.ipc.specs.Receive.{recvOf, parkOf}
-use Rattle.ipc.specs.declared.state.Message.{Message}
-use Rattle.ipc.specs.declared.answers.SendAnswer as send
-use Rattle.ipc.specs.declared.answers.RecvAnswer as recv
-use Rattle.ipc.specs.declared.answers.ParkAnswer as park
+use Rattle.ipc_rules.specs.Send.{sendOf}
+use Rattle.ipc_rules.specs.Receive.{recvOf, parkOf}
+use Rattle.ipc_rules.specs.declared.state.Message.{Message}
+use Rattle.ipc_rules.specs.declared.answers.SendAnswer as send
+use Rattle.ipc_rules.specs.declared.answers.RecvAnswer as recv
+use Rattle.ipc_rules.specs.declared.answers.ParkAnswer as park
 use Rattle.history.specs.Calls.{Call, create, send, receive, park, queued, revoke, register, release, holders, clear, noteAuthority, noteState, counts}
 use Rattle.history.specs.World.{World, step}
 use Rattle.history.specs.Channels.{on, onAny}

@@ -25,22 +25,22 @@ use Rattle.laws.specs.Refusals as no
 use Rattle.cap.specs.Rights.{sendRight, receiveRight}
 use Rattle.cap.specs.declared.CapId.{CapId}
 use Rattle.cap.specs.declared.slot.Slot.{Slot}
-use Rattle.ipc.specs.State.{nobody}
-use Rattle.ipc.specs.Opening.{openingOf, holdOf, opened}
-use Rattle.ipc.specs.Answers.{sendNumber}
-use Rattle.ipc.specs.Send.{sendOf}
-use Rattle.ipc.specs.Receive.{sameTask, waiting}
-use Rattle.ipc.specs.Views.{waiterOf, holdsOf, ephemeralOf, heldBy, heldIn}
-use Rattle.ipc.specs.declared.state.Channel.{Channel}
-use Rattle.ipc.specs.declared.state.TaskId.{TaskId}
-use Rattle.ipc.specs.declared.state.Message.{Message}
-use Rattle.ipc.specs.declared.state.Waiter.{Waiter}
-use Rattle.ipc.specs.declared.state.Table.{Table}
-use Rattle.ipc.specs.declared.answers.SendAnswer.the-variants.{Sent}
-use Rattle.ipc.specs.declared.answers.ParkAnswer.the-variants.{Parked}
-use Rattle.ipc.specs.declared.answers.ReleaseAnswer.the-variants.{Released}
-use Rattle.ipc.specs.declared.answers.RevokeAnswer.the-variants.{Revoked}
-use Rattle.ipc.specs.declared.opening.Opening.the-variants.{Opens}
+use Rattle.ipc_rules.specs.State.{nobody}
+use Rattle.ipc_rules.specs.Opening.{openingOf, holdOf, opened}
+use Rattle.ipc_rules.specs.Answers.{sendNumber}
+use Rattle.ipc_rules.specs.Send.{sendOf}
+use Rattle.ipc_rules.specs.Receive.{sameTask, waiting}
+use Rattle.ipc_rules.specs.Views.{waiterOf, holdsOf, ephemeralOf, heldBy, heldIn}
+use Rattle.ipc_rules.specs.declared.state.Channel.{Channel}
+use Rattle.ipc_rules.specs.declared.state.TaskId.{TaskId}
+use Rattle.ipc_rules.specs.declared.state.Message.{Message}
+use Rattle.ipc_rules.specs.declared.state.Waiter.{Waiter}
+use Rattle.ipc_rules.specs.declared.state.Table.{Table}
+use Rattle.ipc_rules.specs.declared.answers.SendAnswer.the-variants.{Sent}
+use Rattle.ipc_rules.specs.declared.answers.ParkAnswer.the-variants.{Parked}
+use Rattle.ipc_rules.specs.declared.answers.ReleaseAnswer.the-variants.{Released}
+use Rattle.ipc_rules.specs.declared.answers.RevokeAnswer.the-variants.{Revoked}
+use Rattle.ipc_rules.specs.declared.opening.Opening.the-variants.{Opens}
 use Rattle.history.specs.Calls.{Call, create, send, receive, park, queued, revoke, register, release, holders, clear, noteAuthority, noteState, counts, sent, parked, revoked, released, fourSlots, answer}
 use Rattle.history.specs.World.{World, step, run, Reached}
 use Rattle.history.specs.Channels.{LivesIn, on, onAny}

@@ -8,13 +8,13 @@ use lib.Dec.{eqb}
 use Rattle.laws.specs.Pick.{pick}
 use Rattle.cap.specs.Id.{indexOf}
 use Rattle.cap.specs.declared.CapId.{CapId}
-use Rattle.ipc.specs.State.{endpointAt}
-use Rattle.ipc.specs.Make.{freshOf, inRange}
-use Rattle.ipc.specs.declared.state.Channel.{Channel}
-use Rattle.ipc.specs.declared.state.Sizes.{Sizes}
-use Rattle.ipc.specs.declared.state.Table.{Table}
-use Rattle.ipc.specs.declared.answers.CreateAnswer.{CreateAnswer}
-use Rattle.ipc.specs.declared.answers.CreateAnswer.the-variants.{Created, NoMailbox, NoEndpoint, BadTable}
+use Rattle.ipc_rules.specs.State.{endpointAt}
+use Rattle.ipc_rules.specs.Make.{freshOf, inRange}
+use Rattle.ipc_rules.specs.declared.state.Channel.{Channel}
+use Rattle.ipc_rules.specs.declared.state.Sizes.{Sizes}
+use Rattle.ipc_rules.specs.declared.state.Table.{Table}
+use Rattle.ipc_rules.specs.declared.answers.CreateAnswer.{CreateAnswer}
+use Rattle.ipc_rules.specs.declared.answers.CreateAnswer.the-variants.{Created, NoMailbox, NoEndpoint, BadTable}
 use Rattle.history.specs.Calls.{Call, Answer, created, sent, received, parked, measured, revoked, registered, released, held, cleared, noted, counted, answer, after}
 
 pub record World : Type 0 where

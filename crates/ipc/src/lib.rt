@@ -1,223 +1,211 @@
 // The channel table: which mailbox an id opens, what waits in it, and who is woken. Ported from ipc.rs.
 //
 // These are the calls that anyone may make, on any table and any operands: each tests the lent table first and refuses one that is not
-// sound with 27. Crates that have shown their table to be sound call `inner` and do not pay for the test again.
+// sound with 27. Crates that have shown their table to be sound call the functions of `ipc_life`,
+// `ipc_queue` and `ipc_holds` and do not pay for the test again.
 ghost use mathlib.Core.Path.{_≡_};
 ghost use mathlib.Core.Bool.{true, false};
-ghost use Rattle.ipc.specs.Border.{createCall, sendCall, recvCall, parkCall, queuedCall, holdersCall, registerCall, releaseCall, revokeCall, clearCall, noteAuthorityCall, noteStateCall, refusalsCall};
-use answers::ClearAnswer;
-use answers::Clearing;
-use answers::CreateAnswer;
-use answers::Creation;
-use answers::HoldersAnswer;
-use answers::NoteAnswer;
-use answers::Noting;
-use answers::ParkAnswer;
-use answers::Parking;
-use answers::QueuedAnswer;
-use answers::Receiving;
-use answers::RecvAnswer;
-use answers::RefusalsAnswer;
-use answers::RegisterAnswer;
-use answers::Registering;
-use answers::ReleaseAnswer;
-use answers::Releasing;
-use answers::RevokeAnswer;
-use answers::Revoking;
-use answers::SendAnswer;
-use answers::Sending;
+ghost use Rattle.ipc_sound.specs.Border.{createCall, sendCall, recvCall, parkCall, queuedCall, holdersCall, registerCall, releaseCall, revokeCall, clearCall, noteAuthorityCall, noteStateCall, refusalsCall};
 use cap::CapId;
 use cap::Slot;
-use state::Message;
-use state::Table;
-use state::TaskId;
-use state::Waiter;
-
-pub mod answers;
-pub mod inner;
-pub mod making;
-pub mod numbers;
-pub mod opening;
-pub mod sound;
-pub mod state;
-
-pub use making::new;
+pub use ipc_life::making::new;
+use ipc_rules::answers::ClearAnswer;
+use ipc_rules::answers::Clearing;
+use ipc_rules::answers::CreateAnswer;
+use ipc_rules::answers::Creation;
+use ipc_rules::answers::HoldersAnswer;
+use ipc_rules::answers::NoteAnswer;
+use ipc_rules::answers::Noting;
+use ipc_rules::answers::ParkAnswer;
+use ipc_rules::answers::Parking;
+use ipc_rules::answers::QueuedAnswer;
+use ipc_rules::answers::Receiving;
+use ipc_rules::answers::RecvAnswer;
+use ipc_rules::answers::RefusalsAnswer;
+use ipc_rules::answers::RegisterAnswer;
+use ipc_rules::answers::Registering;
+use ipc_rules::answers::ReleaseAnswer;
+use ipc_rules::answers::Releasing;
+use ipc_rules::answers::RevokeAnswer;
+use ipc_rules::answers::Revoking;
+use ipc_rules::answers::SendAnswer;
+use ipc_rules::answers::Sending;
+use ipc_rules::state::Message;
+use ipc_rules::state::NOBODY;
+use ipc_rules::state::Table;
+use ipc_rules::state::TaskId;
 
 // A channel whose waiter is not cancelled when the last send hold goes.
 pub fn create_channel(t: Table) -> Creation
     ensures { λ r. ⌜ r ≡ createCall t false ⌝ }
 {
-    if !sound::sound(t) {
+    if !ipc_sound::sound(t) {
         return Creation {
             answer: CreateAnswer::BadTable,
             table: t,
         };
     }
-    inner::create(t, false)
+    ipc_life::inner::create(t, false)
 }
 
 // A channel whose waiter is.
 pub fn create_channel_ephemeral(t: Table) -> Creation
     ensures { λ r. ⌜ r ≡ createCall t true ⌝ }
 {
-    if !sound::sound(t) {
+    if !ipc_sound::sound(t) {
         return Creation {
             answer: CreateAnswer::BadTable,
             table: t,
         };
     }
-    inner::create(t, true)
+    ipc_life::inner::create(t, true)
 }
 
 // Queues a message and answers the task to wake.
 pub fn send(t: Table, cap: CapId, msg: Message) -> Sending
     ensures { λ r. ⌜ r ≡ sendCall t cap msg ⌝ }
 {
-    if !sound::sound(t) {
+    if !ipc_sound::sound(t) {
         return Sending {
             answer: SendAnswer::BadTable,
             table: t,
         };
     }
-    inner::send(t, cap, msg)
+    ipc_queue::inner::send(t, cap, msg)
 }
 
 // Takes the oldest message.
 pub fn try_recv(t: Table, cap: CapId) -> Receiving
     ensures { λ r. ⌜ r ≡ recvCall t cap ⌝ }
 {
-    if !sound::sound(t) {
+    if !ipc_sound::sound(t) {
         return Receiving {
             answer: RecvAnswer::BadTable,
             table: t,
         };
     }
-    inner::try_recv(t, cap)
+    ipc_queue::inner::try_recv(t, cap)
 }
 
 // Takes the oldest message, or waits for one.
 pub fn park(t: Table, cap: CapId, me: TaskId) -> Parking
     ensures { λ r. ⌜ r ≡ parkCall t cap me ⌝ }
 {
-    if !sound::sound(t) {
+    if !ipc_sound::sound(t) {
         return Parking {
             answer: ParkAnswer::BadTable,
             table: t,
         };
     }
-    inner::park(t, cap, me)
+    ipc_queue::inner::park(t, cap, me)
 }
 
 // How many messages wait; either end may ask.
 pub fn queued(t: Table, cap: CapId) -> QueuedAnswer
     ensures { λ r. ⌜ r ≡ queuedCall t cap ⌝ }
 {
-    if !sound::sound(t) {
+    if !ipc_sound::sound(t) {
         return QueuedAnswer::BadTable;
     }
-    inner::queued(t, cap)
+    ipc_queue::inner::queued(t, cap)
 }
 
 // How many slots hold the send end.
 pub fn send_holders(t: Table, cap: CapId) -> HoldersAnswer
     ensures { λ r. ⌜ r ≡ holdersCall t cap ⌝ }
 {
-    if !sound::sound(t) {
+    if !ipc_sound::sound(t) {
         return HoldersAnswer::BadTable;
     }
-    inner::send_holders(t, cap)
+    ipc_queue::inner::send_holders(t, cap)
 }
 
 // A hold for each id of the list that opens for send.
 pub fn register_holds(t: Table, list: &[u64]) -> Registering
     ensures { λ r. ⌜ r ≡ registerCall t (now (list .entry)) ⌝ }
 {
-    if !sound::sound(t) {
+    if !ipc_sound::sound(t) {
         return Registering {
             answer: RegisterAnswer::BadTable,
             table: t,
         };
     }
-    inner::register_holds(t, list)
+    ipc_holds::inner::register_holds(t, list)
 }
 
 // A hold less for each of four slots, and the waiters to cancel.
 pub fn release_holds(t: Table, slots: [Slot; 4]) -> Releasing
     ensures { λ r. ⌜ r ≡ releaseCall t slots ⌝ }
 {
-    if !sound::sound(t) {
-        let nobody = Waiter {
-            present: false,
-            task: TaskId { slot: 0, epoch: 0 },
-        };
+    if !ipc_sound::sound(t) {
         return Releasing {
             answer: ReleaseAnswer::BadTable,
-            waiters: [nobody; 4],
+            waiters: [NOBODY; 4],
             table: t,
         };
     }
-    inner::release_holds(t, slots)
+    ipc_holds::inner::release_holds(t, slots)
 }
 
 // Ends a channel, by either end, and answers its waiter.
 pub fn revoke_channel(t: Table, cap: CapId) -> Revoking
     ensures { λ r. ⌜ r ≡ revokeCall t cap ⌝ }
 {
-    if !sound::sound(t) {
+    if !ipc_sound::sound(t) {
         return Revoking {
             answer: RevokeAnswer::BadTable,
             table: t,
         };
     }
-    inner::revoke_channel(t, cap)
+    ipc_life::inner::revoke_channel(t, cap)
 }
 
 // Takes a task out of every mailbox that it waits on.
 pub fn clear_waiter(t: Table, task: TaskId) -> Clearing
     ensures { λ r. ⌜ r ≡ clearCall t task ⌝ }
 {
-    if !sound::sound(t) {
+    if !ipc_sound::sound(t) {
         return Clearing {
             answer: ClearAnswer::BadTable,
             table: t,
         };
     }
-    inner::clear_waiter(t, task)
+    ipc_life::inner::clear_waiter(t, task)
 }
 
 // Counts a refusal for want of authority that was found elsewhere.
 pub fn note_authority_refusal(t: Table) -> Noting
     ensures { λ r. ⌜ r ≡ noteAuthorityCall t ⌝ }
 {
-    if !sound::sound(t) {
+    if !ipc_sound::sound(t) {
         return Noting {
             answer: NoteAnswer::BadTable,
             table: t,
         };
     }
-    inner::note_authority_refusal(t)
+    ipc_life::inner::note_authority_refusal(t)
 }
 
 // Counts a refusal for a state that should not be, found elsewhere.
 pub fn note_state_refusal(t: Table) -> Noting
     ensures { λ r. ⌜ r ≡ noteStateCall t ⌝ }
 {
-    if !sound::sound(t) {
+    if !ipc_sound::sound(t) {
         return Noting {
             answer: NoteAnswer::BadTable,
             table: t,
         };
     }
-    inner::note_state_refusal(t)
+    ipc_life::inner::note_state_refusal(t)
 }
 
 // The refusals so far, by reason.
 pub fn refusals(t: Table) -> RefusalsAnswer
     ensures { λ r. ⌜ r ≡ refusalsCall t ⌝ }
 {
-    if !sound::sound(t) {
+    if !ipc_sound::sound(t) {
         return RefusalsAnswer::BadTable;
     }
-    let counts = t.refusals;
+    let counts = t.counters.refusals;
     RefusalsAnswer::Counts(counts)
 }

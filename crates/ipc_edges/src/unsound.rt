@@ -1,9 +1,4 @@
 // What every call says to a table that no call makes: 27, first of all, and the table back with the mark that it had.
-ghost use mathlib.Core.Path.{_≡_};
-ghost use mathlib.Core.Bool.{false};
-ghost use mathlib.Core.List.{[], _∷_};
-ghost use Rattle.ipc.specs.SoundTest.{soundTest};
-ghost use Rattle.ipc_edges.specs.Values.{markOf};
 use crate::counts;
 use crate::people::ANN;
 use crate::people::LETTER;
@@ -11,12 +6,9 @@ use crate::people::RECV;
 use crate::people::SEND;
 use crate::people::SEND_SLOT;
 use crate::values;
-use ipc::state::Table;
+use ipc_rules::state::Table;
 
-pub fn creating(t: Table) -> [u64; 4]
-    requires { ⌜ soundTest t ≡ false ⌝ }
-    ensures { λ r. ⌜ r ≡ 27 ∷ markOf t ∷ 27 ∷ markOf t ∷ [] ⌝ }
-{
+pub fn creating(t: Table) -> [u64; 4] {
     let plain = ipc::create_channel(t);
     let ephemeral = ipc::create_channel_ephemeral(t);
     [
@@ -27,10 +19,7 @@ pub fn creating(t: Table) -> [u64; 4]
     ]
 }
 
-pub fn messages(t: Table) -> [u64; 7]
-    requires { ⌜ soundTest t ≡ false ⌝ }
-    ensures { λ r. ⌜ r ≡ 27 ∷ markOf t ∷ 27 ∷ markOf t ∷ 27 ∷ markOf t ∷ 27 ∷ [] ⌝ }
-{
+pub fn messages(t: Table) -> [u64; 7] {
     let send = ipc::send(t, SEND, LETTER);
     let recv = ipc::try_recv(t, RECV);
     let park = ipc::park(t, RECV, ANN);
@@ -46,10 +35,7 @@ pub fn messages(t: Table) -> [u64; 7]
 }
 
 // The list's word does not read: 27 comes before 21.
-pub fn holds(t: Table) -> [u64; 5]
-    requires { ⌜ soundTest t ≡ false ⌝ }
-    ensures { λ r. ⌜ r ≡ 27 ∷ markOf t ∷ 27 ∷ markOf t ∷ 27 ∷ [] ⌝ }
-{
+pub fn holds(t: Table) -> [u64; 5] {
     let list = [1];
     let register = ipc::register_holds(t, &list);
     let release = ipc::release_holds(t, [SEND_SLOT; 4]);
@@ -62,10 +48,7 @@ pub fn holds(t: Table) -> [u64; 5]
     ]
 }
 
-pub fn endings(t: Table) -> [u64; 4]
-    requires { ⌜ soundTest t ≡ false ⌝ }
-    ensures { λ r. ⌜ r ≡ 27 ∷ markOf t ∷ 27 ∷ markOf t ∷ [] ⌝ }
-{
+pub fn endings(t: Table) -> [u64; 4] {
     let revoke = ipc::revoke_channel(t, SEND);
     let clear = ipc::clear_waiter(t, ANN);
     [
@@ -76,10 +59,7 @@ pub fn endings(t: Table) -> [u64; 4]
     ]
 }
 
-pub fn refusals(t: Table) -> [u64; 5]
-    requires { ⌜ soundTest t ≡ false ⌝ }
-    ensures { λ r. ⌜ r ≡ 27 ∷ markOf t ∷ 27 ∷ markOf t ∷ 27 ∷ [] ⌝ }
-{
+pub fn refusals(t: Table) -> [u64; 5] {
     let authority = ipc::note_authority_refusal(t);
     let state = ipc::note_state_refusal(t);
     [

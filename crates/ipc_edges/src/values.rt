@@ -1,30 +1,22 @@
 // An answer as numbers: 0 or the refusal's number, and its values, where there are three of them in one number (1 5 6 is 1005006).
-ghost use mathlib.Core.Path.{_≡_};
-ghost use lib.ListN.{getD};
-ghost use Rattle.ipc.specs.Answers.{newNumber, createNumber, createValues, sendNumber, recvNumber, parkNumber};
-ghost use Rattle.ipc_edges.specs.Values.{waiterCode, messageCode, sendCode, recvCode, parkCode, markOf};
-use ipc::answers::CreateAnswer;
-use ipc::answers::Creation;
-use ipc::answers::New;
-use ipc::answers::ParkAnswer;
-use ipc::answers::Parking;
-use ipc::answers::Receiving;
-use ipc::answers::RecvAnswer;
-use ipc::answers::SendAnswer;
-use ipc::answers::Sending;
-use ipc::state::Message;
-use ipc::state::Table;
-use ipc::state::Waiter;
+use ipc_rules::answers::CreateAnswer;
+use ipc_rules::answers::Creation;
+use ipc_rules::answers::New;
+use ipc_rules::answers::ParkAnswer;
+use ipc_rules::answers::Parking;
+use ipc_rules::answers::Receiving;
+use ipc_rules::answers::RecvAnswer;
+use ipc_rules::answers::SendAnswer;
+use ipc_rules::answers::Sending;
+use ipc_rules::state::Message;
+use ipc_rules::state::Table;
+use ipc_rules::state::Waiter;
 
-pub fn wide(n: u8) -> u64
-    ensures { λ r. ⌜ r ≡ n ⌝ }
-{
+pub fn wide(n: u8) -> u64 {
     n as u64
 }
 
-pub fn waiter_code(w: Waiter) -> u64
-    ensures { λ r. ⌜ r ≡ waiterCode w ⌝ }
-{
+pub fn waiter_code(w: Waiter) -> u64 {
     if w.present {
         let task = w.task;
         return 1000000 + (task.slot as u64) % 1000 * 1000 + (task.epoch as u64) % 1000;
@@ -32,39 +24,29 @@ pub fn waiter_code(w: Waiter) -> u64
     0
 }
 
-fn message_code(m: Message) -> u64
-    ensures { λ r. ⌜ r ≡ messageCode m ⌝ }
-{
+fn message_code(m: Message) -> u64 {
     (m.tag as u64) * 1000000 + m.a % 1000 * 1000 + m.b % 1000
 }
 
-pub fn mark(t: Table) -> u64
-    ensures { λ r. ⌜ r ≡ markOf t ⌝ }
-{
+pub fn mark(t: Table) -> u64 {
     let z = t.sizes;
-    (t.next_gen as u64) * 1000000
+    (t.counters.next_gen as u64) * 1000000
         + (z.mailboxes as u64) % 100 * 10000
         + (z.endpoints as u64) % 100 * 100
         + (z.depth as u64) % 100
 }
 
-pub fn made(x: New) -> u64
-    ensures { λ r. ⌜ r ≡ newNumber (x .answer) ⌝ }
-{
+pub fn made(x: New) -> u64 {
     let a = x.answer;
     wide(a.number())
 }
 
-pub fn created(x: Creation) -> u64
-    ensures { λ r. ⌜ r ≡ createNumber (x .answer) ⌝ }
-{
+pub fn created(x: Creation) -> u64 {
     let a = x.answer;
     wide(a.number())
 }
 
-pub fn send_id(x: Creation) -> u64
-    ensures { λ r. ⌜ r ≡ getD (createValues (x .answer)) 0 0 ⌝ }
-{
+pub fn send_id(x: Creation) -> u64 {
     let a = x.answer;
     match a {
         CreateAnswer::Created(ch) => ch.send.raw as u64,
@@ -74,9 +56,7 @@ pub fn send_id(x: Creation) -> u64
     }
 }
 
-pub fn recv_id(x: Creation) -> u64
-    ensures { λ r. ⌜ r ≡ getD (createValues (x .answer)) 1 0 ⌝ }
-{
+pub fn recv_id(x: Creation) -> u64 {
     let a = x.answer;
     match a {
         CreateAnswer::Created(ch) => ch.recv.raw as u64,
@@ -86,16 +66,12 @@ pub fn recv_id(x: Creation) -> u64
     }
 }
 
-pub fn sent(x: Sending) -> u64
-    ensures { λ r. ⌜ r ≡ sendNumber (x .answer) ⌝ }
-{
+pub fn sent(x: Sending) -> u64 {
     let a = x.answer;
     wide(a.number())
 }
 
-pub fn woken(x: Sending) -> u64
-    ensures { λ r. ⌜ r ≡ sendCode (x .answer) ⌝ }
-{
+pub fn woken(x: Sending) -> u64 {
     let a = x.answer;
     match a {
         SendAnswer::Sent(w) => waiter_code(w),
@@ -105,16 +81,12 @@ pub fn woken(x: Sending) -> u64
     }
 }
 
-pub fn received(x: Receiving) -> u64
-    ensures { λ r. ⌜ r ≡ recvNumber (x .answer) ⌝ }
-{
+pub fn received(x: Receiving) -> u64 {
     let a = x.answer;
     wide(a.number())
 }
 
-pub fn message(x: Receiving) -> u64
-    ensures { λ r. ⌜ r ≡ recvCode (x .answer) ⌝ }
-{
+pub fn message(x: Receiving) -> u64 {
     let a = x.answer;
     match a {
         RecvAnswer::Received(m) => message_code(m),
@@ -124,17 +96,13 @@ pub fn message(x: Receiving) -> u64
     }
 }
 
-pub fn parked(x: Parking) -> u64
-    ensures { λ r. ⌜ r ≡ parkNumber (x .answer) ⌝ }
-{
+pub fn parked(x: Parking) -> u64 {
     let a = x.answer;
     wide(a.number())
 }
 
 // 0 where no message is given.
-pub fn given(x: Parking) -> u64
-    ensures { λ r. ⌜ r ≡ parkCode (x .answer) ⌝ }
-{
+pub fn given(x: Parking) -> u64 {
     let a = x.answer;
     match a {
         ParkAnswer::Given(m) => message_code(m),

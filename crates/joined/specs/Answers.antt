@@ -2,8 +2,8 @@
 use mathlib.Core.List.{List, []}
 use Prim.Native.Nat.{ℕ}
 use Rattle.laws.specs.Refusals as no
-use Rattle.ipc.specs.Answers.{fourWaiterValues}
-use Rattle.ipc.specs.declared.state.Waiter.{Waiter}
+use Rattle.ipc_rules.specs.Answers.{fourWaiterValues}
+use Rattle.ipc_rules.specs.declared.state.Waiter.{Waiter}
 use Rattle.joined.specs.declared.answers.SpawnAnswer as spawn
 use Rattle.joined.specs.declared.answers.LeaveAnswer as leave
 use Rattle.joined.specs.declared.answers.GiveAnswer as give

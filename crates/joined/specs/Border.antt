@@ -4,8 +4,8 @@ use mathlib.Core.List.{List}
 use Prim.Native.Nat.{ℕ}
 use Rattle.cap.specs.declared.CapId.{CapId}
 use Rattle.capslots.specs.declared.Table.{Table as Rows}
-use Rattle.ipc.specs.Border.{guarded}
-use Rattle.ipc.specs.declared.state.Table.{Table as Channels}
+use Rattle.ipc_sound.specs.Border.{guarded}
+use Rattle.ipc_rules.specs.declared.state.Table.{Table as Channels}
 use Rattle.joined.specs.Steps.{spawnRefused, spawnOf, leaveRefused, leaveOf, giveRefused, giveOf}
 use Rattle.joined.specs.declared.answers.Spawning.{Spawning}
 use Rattle.joined.specs.declared.answers.SpawnAnswer as spawn

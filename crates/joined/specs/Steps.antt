@@ -11,8 +11,8 @@ use Rattle.capslots.specs.Rows.{seedOf, drainOf, installOf}
 use Rattle.capslots.specs.declared.Table.{Table as Rows}
 use Rattle.capslots.specs.declared.answers.InstallAnswer.{InstallAnswer}
 use Rattle.capslots.specs.declared.answers.InstallAnswer.the-variants.{Installed, BadSlot}
-use Rattle.ipc.specs.Holds.{registered, registeredAll, releaseOf, fourOf}
-use Rattle.ipc.specs.declared.state.Table.{Table as Channels}
+use Rattle.ipc_rules.specs.Holds.{registered, registeredAll, releaseOf, fourOf}
+use Rattle.ipc_rules.specs.declared.state.Table.{Table as Channels}
 use Rattle.joined.specs.declared.answers.Spawning.{Spawning}
 use Rattle.joined.specs.declared.answers.SpawnAnswer as spawn
 use Rattle.joined.specs.declared.answers.Leaving.{Leaving}

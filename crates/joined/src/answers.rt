@@ -2,9 +2,9 @@
 ghost use mathlib.Core.Path.{_≡_};
 ghost use Rattle.joined.specs.Answers.{spawnNumber, leaveNumber, giveNumber};
 use capslots::Table as Rows;
-use ipc::state::Table as Channels;
-use ipc::state::TaskId;
-use ipc::state::Waiter;
+use ipc_rules::state::Table as Channels;
+use ipc_rules::state::TaskId;
+use ipc_rules::state::Waiter;
 use laws::refusals;
 
 pub enum SpawnAnswer {

@@ -6,8 +6,7 @@ ghost use mathlib.Core.Path.{_≡_};
 ghost use Rattle.joined.specs.Border.{spawnCall, leaveCall, giveCall};
 use cap::CapId;
 use capslots::Table as Rows;
-use ipc::sound;
-use ipc::state::Table as Channels;
+use ipc_rules::state::Table as Channels;
 
 pub mod answers;
 pub mod inner;
@@ -23,7 +22,7 @@ pub use answers::Spawning;
 pub fn spawn(channels: Channels, rows: Rows, row: usize, list: &[u64]) -> Spawning
     ensures { λ r. ⌜ r ≡ spawnCall channels rows row (now (list .entry)) ⌝ }
 {
-    if !sound::sound(channels) {
+    if !ipc_sound::sound(channels) {
         return Spawning {
             answer: SpawnAnswer::BadTable,
             channels,
@@ -37,7 +36,7 @@ pub fn spawn(channels: Channels, rows: Rows, row: usize, list: &[u64]) -> Spawni
 pub fn leave(channels: Channels, rows: Rows, row: usize) -> Leaving
     ensures { λ r. ⌜ r ≡ leaveCall channels rows row ⌝ }
 {
-    if !sound::sound(channels) {
+    if !ipc_sound::sound(channels) {
         return Leaving {
             answer: LeaveAnswer::BadTable,
             waiters: [answers::NOBODY; 4],
@@ -52,7 +51,7 @@ pub fn leave(channels: Channels, rows: Rows, row: usize) -> Leaving
 pub fn give(channels: Channels, rows: Rows, row: usize, slot: usize, id: CapId) -> Giving
     ensures { λ r. ⌜ r ≡ giveCall channels rows row slot id ⌝ }
 {
-    if !sound::sound(channels) {
+    if !ipc_sound::sound(channels) {
         return Giving {
             answer: GiveAnswer::BadTable,
             channels,

@@ -3,11 +3,11 @@
 use cap::CapId;
 use cap::Slot;
 use capslots::Table as Rows;
-use ipc::answers::HoldersAnswer;
-use ipc::answers::ParkAnswer;
-use ipc::state::Table as Channels;
-use ipc::state::TaskId;
-use ipc::state::Waiter;
+use ipc_rules::answers::HoldersAnswer;
+use ipc_rules::answers::ParkAnswer;
+use ipc_rules::state::Table as Channels;
+use ipc_rules::state::TaskId;
+use ipc_rules::state::Waiter;
 use joined::LeaveAnswer;
 use libc::STDOUT_FILENO;
 

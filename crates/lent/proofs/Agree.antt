@@ -5,11 +5,11 @@ use mathlib.Core.List.{List}
 use Prim.Native.Nat.{ℕ}
 use Rattle.laws.specs.Pick.{pick}
 use Rattle.cap.specs.Word.{wordsRead, slotsOf}
-use Rattle.ipc.specs.State.{withRefusals}
-use Rattle.ipc.specs.Holds.{registerOf}
-use Rattle.ipc.specs.Border.{guarded, registerCall, noteAuthorityCall, noteStateCall}
-use Rattle.ipc.specs.declared.state.Table.{Table}
-use Rattle.ipc.specs.declared.answers.NoteAnswer.the-variants.{Noted, BadTable}
+use Rattle.ipc_rules.specs.State.{withRefusals}
+use Rattle.ipc_rules.specs.Holds.{registerOf}
+use Rattle.ipc_sound.specs.Border.{guarded, registerCall, noteAuthorityCall, noteStateCall}
+use Rattle.ipc_rules.specs.declared.state.Table.{Table}
+use Rattle.ipc_rules.specs.declared.answers.NoteAnswer.the-variants.{Noted, BadTable}
 use Rattle.manifest.specs.Bind.{bindSlots, bindOf}
 use Rattle.manifest.specs.declared.AgentEntry.{AgentEntry}
 use Rattle.lent.specs.Counts.{authorityNoted, stateNoted}
@@ -25,8 +25,8 @@ unfolding bindOf pick
 bind-agrees e words h = rw h
 
 -- ---- the note calls: on a sound table they leave its counts as the lent counts are left, and nothing else of it changes
-pub authority-agrees : (t : Table) → noteAuthorityCall t ≡ guarded t (record { answer = BadTable; table = t }) (record { answer = Noted; table = withRefusals t (authorityNoted (t .refusals)) })
+pub authority-agrees : (t : Table) → noteAuthorityCall t ≡ guarded t (record { answer = BadTable; table = t }) (record { answer = Noted; table = withRefusals t (authorityNoted (t .counters .refusals)) })
 authority-agrees t = refl
 
-pub state-agrees : (t : Table) → noteStateCall t ≡ guarded t (record { answer = BadTable; table = t }) (record { answer = Noted; table = withRefusals t (stateNoted (t .refusals)) })
+pub state-agrees : (t : Table) → noteStateCall t ≡ guarded t (record { answer = BadTable; table = t }) (record { answer = Noted; table = withRefusals t (stateNoted (t .counters .refusals)) })
 state-agrees t = refl

@@ -13,10 +13,10 @@ use Rattle.cap.specs.Word.{readWord, wordOf, isWord, orVacant, wordsRead, slots
 use Rattle.cap.specs.declared.slot.Slot.{Slot}
 use Rattle.cap.specs.declared.word.WordAnswer.the-variants.{Reads}
 use Rattle.cap.proofs.Words.{holding-back, vacant-back, reads-test}
-use Rattle.ipc.specs.Opening.{opened, holdOf}
-use Rattle.ipc.specs.Holds.{registered, registeredAll}
-use Rattle.ipc.specs.Border.{registerCall}
-use Rattle.ipc.specs.declared.state.Table.{Table}
+use Rattle.ipc_rules.specs.Opening.{opened, holdOf}
+use Rattle.ipc_rules.specs.Holds.{registered, registeredAll}
+use Rattle.ipc_sound.specs.Border.{registerCall}
+use Rattle.ipc_rules.specs.declared.state.Table.{Table}
 use Rattle.manifest.specs.Bind.{wantAt, choiceFrom, choiceOf, inOrder, bindSlots, bindOf}
 use Rattle.manifest.specs.declared.Want.{Want}
 use Rattle.manifest.specs.declared.AgentEntry.{AgentEntry}

@@ -7,16 +7,16 @@ use Rattle.laws.specs.Pick.{pick}
 use Rattle.laws.proofs.Cases.{not-both}
 use Rattle.walks.specs.Over.{over}
 use Rattle.cap.specs.declared.slot.Slot.{Slot}
-use Rattle.ipc.specs.State.{Shape}
-use Rattle.ipc.specs.SoundTest.{soundTest}
-use Rattle.ipc.specs.Opening.{holdOf}
-use Rattle.ipc.specs.Holds.{registered, registeredAll}
-use Rattle.ipc.specs.Border.{guarded}
-use Rattle.ipc.specs.declared.state.Table.{Table}
-use Rattle.ipc.specs.declared.answers.RegisterAnswer.the-variants.{Registered, BadTable}
-use Rattle.ipc.proofs.Openings.{all-opened}
-use Rattle.ipc.proofs.KeepsCalls.{registered-kept}
-use Rattle.ipc.proofs.Decide.{sound-of}
+use Rattle.ipc_rules.specs.State.{Shape}
+use Rattle.ipc_sound.specs.SoundTest.{soundTest}
+use Rattle.ipc_rules.specs.Opening.{holdOf}
+use Rattle.ipc_rules.specs.Holds.{registered, registeredAll}
+use Rattle.ipc_sound.specs.Border.{guarded}
+use Rattle.ipc_rules.specs.declared.state.Table.{Table}
+use Rattle.ipc_rules.specs.declared.answers.RegisterAnswer.the-variants.{Registered, BadTable}
+use Rattle.ipc_rules.proofs.Openings.{all-opened}
+use Rattle.ipc_rules.proofs.KeepsCalls.{registered-kept}
+use Rattle.ipc_sound.proofs.Decide.{sound-of}
 use Rattle.lent.specs.Holds.{Tested, begun, held, finished, registerSlots}
 use Rattle.lent.specs.declared.holds.Holding.{Holding}
 

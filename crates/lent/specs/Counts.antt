@@ -1,6 +1,6 @@
 -- Document 01, "What must change shape": the three refusal counts, lent and raised where they stand, in the two note calls only.
-use Rattle.ipc.specs.Counts.{raised}
-use Rattle.ipc.specs.declared.state.Refusals.{Refusals}
+use Rattle.ipc_rules.specs.Counts.{raised}
+use Rattle.ipc_rules.specs.declared.state.Refusals.{Refusals}
 
 -- one refusal for want of authority more, stopping at 4,294,967,295; the other two counts as they were
 abbrev pub authorityNoted : Refusals → Refusals

@@ -4,14 +4,14 @@ use mathlib.Core.Bool.{true}
 use mathlib.Core.List.{List}
 use Rattle.laws.specs.Pick.{pick}
 use Rattle.cap.specs.declared.slot.Slot.{Slot}
-use Rattle.ipc.specs.State.{Shape}
-use Rattle.ipc.specs.Sound.{Sound}
-use Rattle.ipc.specs.SoundTest.{soundTest}
-use Rattle.ipc.specs.Holds.{registered, registeredAll}
-use Rattle.ipc.specs.Border.{guarded}
-use Rattle.ipc.specs.declared.state.Table.{Table}
-use Rattle.ipc.specs.declared.answers.Registering.{Registering}
-use Rattle.ipc.specs.declared.answers.RegisterAnswer.the-variants.{Registered, BadTable}
+use Rattle.ipc_rules.specs.State.{Shape}
+use Rattle.ipc_rules.specs.Sound.{Sound}
+use Rattle.ipc_sound.specs.SoundTest.{soundTest}
+use Rattle.ipc_rules.specs.Holds.{registered, registeredAll}
+use Rattle.ipc_sound.specs.Border.{guarded}
+use Rattle.ipc_rules.specs.declared.state.Table.{Table}
+use Rattle.ipc_rules.specs.declared.answers.Registering.{Registering}
+use Rattle.ipc_rules.specs.declared.answers.RegisterAnswer.the-variants.{Registered, BadTable}
 use Rattle.lent.specs.declared.holds.Holding.{Holding}
 
 -- the rule: BadTable first of all (27), and then a hold for each present id that opens for send

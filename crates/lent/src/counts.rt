@@ -1,8 +1,8 @@
 // The three refusal counts, lent and raised where they stand.
 ghost use mathlib.Core.Path.{_≡_};
 ghost use Rattle.lent.specs.Counts.{authorityNoted, stateNoted};
-use ipc::inner::raised;
-use ipc::state::Refusals;
+use ipc_parts::counts::raised;
+use ipc_rules::state::Refusals;
 
 fn authority_noted(mut r: Refusals) -> Refusals
     ensures { λ x. ⌜ x ≡ authorityNoted r ⌝ }

@@ -1,18 +1,11 @@
 // Holds for a list that is lent as slot records.
 ghost use mathlib.Core.Path.{_≡_};
-ghost use Rattle.ipc.specs.Sound.{Sound};
-ghost use Rattle.ipc.specs.Holds.{registered};
 ghost use Rattle.lent.specs.Holds.{Tested, begun, held, finished, registerSlots};
-use cap::CapRights;
 use cap::Slot;
-use ipc::answers::RegisterAnswer;
-use ipc::answers::Registering;
-use ipc::inner::raised;
-use ipc::opening::Opening;
-use ipc::opening::open;
-use ipc::sound;
-use ipc::state::MAX_ENDPOINTS;
-use ipc::state::Table;
+use ipc_holds::inner::register_one;
+use ipc_rules::answers::RegisterAnswer;
+use ipc_rules::answers::Registering;
+use ipc_rules::state::Table;
 
 // The table with what was registered so far; an unsound one is left as it is.
 struct Holding {
@@ -24,29 +17,9 @@ fn begin(t: Table) -> Holding
     ensures { λ r. ⌜ r ≡ begun t ⌝ }
 {
     Holding {
-        sound: sound::sound(t),
+        sound: ipc_sound::sound(t),
         table: t,
     }
-}
-
-// One hold, where the slot's id opens for send.
-fn register(mut t: Table, slot: Slot) -> Table
-    requires { ⌜ Sound t ⌝ }
-    ensures { λ r. ⌜ r ≡ registered t slot ⌝ }
-{
-    if !slot.present {
-        return t;
-    }
-    let id = slot.id;
-    let i = id.index() as usize;
-    let ep = t.endpoints[i % MAX_ENDPOINTS];
-    let Opening::Opens(k) = open(i < t.sizes.endpoints, ep, id, CapRights::SEND) else {
-        return t;
-    };
-    let mut b = t.mailboxes[k];
-    b.send_holders = raised(b.send_holders);
-    t.mailboxes[k] = b;
-    t
 }
 
 fn hold(h: Holding, slot: Slot) -> Holding
@@ -59,7 +32,7 @@ fn hold(h: Holding, slot: Slot) -> Holding
     let t = h.table;
     Holding {
         sound: true,
-        table: register(t, slot),
+        table: register_one(t, slot),
     }
 }
 

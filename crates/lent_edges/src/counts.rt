@@ -1,9 +1,9 @@
 // The note calls: on a whole table, and on its counts lent by themselves.
 use crate::lending;
 use crate::shown;
-use ipc::answers::Noting;
-use ipc::state::Refusals;
-use ipc::state::Table;
+use ipc_rules::answers::Noting;
+use ipc_rules::state::Refusals;
+use ipc_rules::state::Table;
 
 fn counts(r: Refusals) {
     shown::value(r.authority as u64);

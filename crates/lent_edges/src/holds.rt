@@ -4,9 +4,9 @@ use crate::lending;
 use crate::shown;
 use cap::CapId;
 use cap::Slot;
-use ipc::answers::Registering;
-use ipc::state::Mailbox;
-use ipc::state::Table;
+use ipc_rules::answers::Registering;
+use ipc_rules::state::Mailbox;
+use ipc_rules::state::Table;
 
 const PRESENT: u64 = 4294967296;
 

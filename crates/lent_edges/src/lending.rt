@@ -6,9 +6,9 @@ ghost use Rattle.manifest.specs.Bind.{bindSlots};
 ghost use Rattle.lent.specs.Counts.{authorityNoted, stateNoted};
 ghost use Rattle.lent.specs.Holds.{registerSlots};
 use cap::Slot;
-use ipc::answers::Registering;
-use ipc::state::Refusals;
-use ipc::state::Table;
+use ipc_rules::answers::Registering;
+use ipc_rules::state::Refusals;
+use ipc_rules::state::Table;
 use manifest::AgentEntry;
 use manifest::Binding;
 

@@ -6,14 +6,14 @@ use lib.Dec.{lit≤, eqb}
 use lib.ListN.{getD}
 use Rattle.laws.proofs.Cases.{all-pick}
 use Rattle.capslots.specs.Rows.{getOf, drainOf}
-use Rattle.ipc.specs.Create.{createOf}
-use Rattle.ipc.specs.Send.{sendOf}
-use Rattle.ipc.specs.Receive.{recvOf, parkOf}
-use Rattle.ipc.specs.Observe.{queuedOf, holdersOf}
-use Rattle.ipc.specs.Revoke.{revokeOf}
-use Rattle.ipc.specs.Holds.{releaseOf}
-use Rattle.ipc.specs.Waiters.{clearOf}
-use Rattle.ipc.specs.Sound.{Sound}
+use Rattle.ipc_rules.specs.Create.{createOf}
+use Rattle.ipc_rules.specs.Send.{sendOf}
+use Rattle.ipc_rules.specs.Receive.{recvOf, parkOf}
+use Rattle.ipc_rules.specs.Observe.{queuedOf, holdersOf}
+use Rattle.ipc_rules.specs.Revoke.{revokeOf}
+use Rattle.ipc_rules.specs.Holds.{releaseOf}
+use Rattle.ipc_rules.specs.Waiters.{clearOf}
+use Rattle.ipc_rules.specs.Sound.{Sound}
 use Rattle.irqcap.specs.Table as irqs
 use Rattle.taskcap.specs.Table as tasks
 use Rattle.joined.specs.Steps.{leaveOf}

@@ -12,18 +12,18 @@ use Rattle.cap.specs.declared.slot.SlotAnswer as slot
 use Rattle.mint.specs.Answer.{mintValues, lookupValues}
 use Rattle.mint.specs.declared.MintAnswer as mint
 use Rattle.mint.specs.declared.LookupAnswer as lookup
-use Rattle.ipc.specs.State.{nobody}
-use Rattle.ipc.specs.Answers.{waiterValues, fourWaiterValues, createValues, sendValues, recvValues, parkValues, queuedValues, holdersValues, releaseValues, revokeValues, clearValues}
-use Rattle.ipc.specs.declared.state.Waiter.{Waiter}
-use Rattle.ipc.specs.declared.answers.CreateAnswer as create
-use Rattle.ipc.specs.declared.answers.SendAnswer as send
-use Rattle.ipc.specs.declared.answers.RecvAnswer as recv
-use Rattle.ipc.specs.declared.answers.ParkAnswer as park
-use Rattle.ipc.specs.declared.answers.QueuedAnswer as queued
-use Rattle.ipc.specs.declared.answers.HoldersAnswer as holders
-use Rattle.ipc.specs.declared.answers.ReleaseAnswer as release
-use Rattle.ipc.specs.declared.answers.RevokeAnswer as revoke
-use Rattle.ipc.specs.declared.answers.ClearAnswer as clear
+use Rattle.ipc_rules.specs.State.{nobody}
+use Rattle.ipc_rules.specs.Answers.{waiterValues, fourWaiterValues, createValues, sendValues, recvValues, parkValues, queuedValues, holdersValues, releaseValues, revokeValues, clearValues}
+use Rattle.ipc_rules.specs.declared.state.Waiter.{Waiter}
+use Rattle.ipc_rules.specs.declared.answers.CreateAnswer as create
+use Rattle.ipc_rules.specs.declared.answers.SendAnswer as send
+use Rattle.ipc_rules.specs.declared.answers.RecvAnswer as recv
+use Rattle.ipc_rules.specs.declared.answers.ParkAnswer as park
+use Rattle.ipc_rules.specs.declared.answers.QueuedAnswer as queued
+use Rattle.ipc_rules.specs.declared.answers.HoldersAnswer as holders
+use Rattle.ipc_rules.specs.declared.answers.ReleaseAnswer as release
+use Rattle.ipc_rules.specs.declared.answers.RevokeAnswer as revoke
+use Rattle.ipc_rules.specs.declared.answers.ClearAnswer as clear
 use Rattle.joined.specs.Answers.{leaveValues}
 use Rattle.joined.specs.declared.answers.LeaveAnswer as leave
 use Rattle.operations.specs.Fours.{slotShown, fourShown}

@@ -1,15 +1,15 @@
 -- Each operation that calls the channel table leaves it sound. Assumes nothing.
 use mathlib.Core.List.{List}
 use Prim.Native.Nat.{ℕ}
-use Rattle.ipc.specs.Sound.{Sound}
-use Rattle.ipc.specs.Holds.{registerOf, releaseOf}
-use Rattle.ipc.specs.declared.answers.Registering.{Registering}
-use Rattle.ipc.proofs.Fresh.{in-range-of, fresh-sound}
-use Rattle.ipc.proofs.Keeps.{counts-kept}
-use Rattle.ipc.proofs.KeepsCalls.{send-kept, recv-kept, park-kept, registered-all-kept, released-all-kept}
-use Rattle.ipc.proofs.KeepsClear.{clear-kept}
-use Rattle.ipc.proofs.KeepsCreate.{create-kept}
-use Rattle.ipc.proofs.KeepsRevoke.{revoke-kept}
+use Rattle.ipc_rules.specs.Sound.{Sound}
+use Rattle.ipc_rules.specs.Holds.{registerOf, releaseOf}
+use Rattle.ipc_rules.specs.declared.answers.Registering.{Registering}
+use Rattle.ipc_rules.proofs.Fresh.{in-range-of, fresh-sound}
+use Rattle.ipc_rules.proofs.Keeps.{counts-kept}
+use Rattle.ipc_rules.proofs.KeepsCalls.{send-kept, recv-kept, park-kept, registered-all-kept, released-all-kept}
+use Rattle.ipc_rules.proofs.KeepsClear.{clear-kept}
+use Rattle.ipc_rules.proofs.KeepsCreate.{create-kept}
+use Rattle.ipc_rules.proofs.KeepsRevoke.{revoke-kept}
 use Rattle.joined.proofs.Calls.{spawn-kept, leave-kept, give-kept}
 use Rattle.laws.proofs.Cases.{all-pick}
 use Rattle.operations.specs.Channels.{newDone, createDone, sendDone, receiveDone, parkDone, revokeDone, clearDone, noteAuthorityDone, noteStateDone}

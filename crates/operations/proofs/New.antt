@@ -7,11 +7,11 @@ use native.Mathlib.Omega.{arith}
 use Rattle.laws.specs.Pick.{pick}
 use Rattle.laws.proofs.Cases.{all-pick}
 use Rattle.laws.specs.Refusals as no
-use Rattle.ipc.specs.Answers.{newNumber}
-use Rattle.ipc.specs.Make.{inRange, sizesOf, newOf}
-use Rattle.ipc.specs.declared.answers.New.{New}
-use Rattle.ipc.specs.declared.answers.NewAnswer.{NewAnswer}
-use Rattle.ipc.specs.declared.answers.NewAnswer.the-variants.{Made, BadSizes}
+use Rattle.ipc_rules.specs.Answers.{newNumber}
+use Rattle.ipc_rules.specs.Make.{inRange, sizesOf, newOf}
+use Rattle.ipc_rules.specs.declared.answers.New.{New}
+use Rattle.ipc_rules.specs.declared.answers.NewAnswer.{NewAnswer}
+use Rattle.ipc_rules.specs.declared.answers.NewAnswer.the-variants.{Made, BadSizes}
 use Rattle.logread.specs.Little.{byteAt}
 use Rattle.operations.specs.Values.{held}
 use Rattle.operations.specs.Done.{packed}

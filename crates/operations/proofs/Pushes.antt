@@ -7,8 +7,8 @@ use native.Mathlib.Omega.{arith}
 use lib.ListN.{length, length-append}
 use Rattle.laws.specs.Pick.{pick}
 use Rattle.laws.proofs.Cases.{all-pick}
-use Rattle.ipc.specs.Answers.{waiterValues}
-use Rattle.ipc.specs.declared.state.Waiter.{Waiter}
+use Rattle.ipc_rules.specs.Answers.{waiterValues}
+use Rattle.ipc_rules.specs.declared.state.Waiter.{Waiter}
 use Rattle.cap.specs.declared.slot.Slot.{Slot}
 use Rattle.operations.specs.Fours.{slotShown, waiterPushed, slotPushed}
 use Rattle.operations.specs.Values.{held, pushed}

@@ -8,25 +8,25 @@ use Rattle.laws.specs.Refusals as no
 use Rattle.capslots.specs.Table as rows
 use Rattle.irqcap.specs.Table as irqs
 use Rattle.taskcap.specs.Table as tasks
-use Rattle.ipc.specs.Answers.{createNumber, createValues, sendNumber, sendValues, recvNumber, recvValues, parkNumber, parkValues, queuedNumber, queuedValues, holdersNumber, holdersValues, revokeNumber, revokeValues, clearNumber, clearValues, noteNumber, countsNumber, countsValues}
-use Rattle.ipc.specs.Counts.{noteAuthorityOf, noteStateOf}
-use Rattle.ipc.specs.Create.{createOf}
-use Rattle.ipc.specs.Make.{inRange, sizesOf, freshOf}
-use Rattle.ipc.specs.Observe.{queuedOf, holdersOf, refusalsOf}
-use Rattle.ipc.specs.Receive.{recvOf, parkOf}
-use Rattle.ipc.specs.Revoke.{revokeOf}
-use Rattle.ipc.specs.Send.{sendOf}
-use Rattle.ipc.specs.Waiters.{clearOf}
-use Rattle.ipc.specs.declared.answers.New.{New}
-use Rattle.ipc.specs.declared.answers.Creation.{Creation}
-use Rattle.ipc.specs.declared.answers.Sending.{Sending}
-use Rattle.ipc.specs.declared.answers.Receiving.{Receiving}
-use Rattle.ipc.specs.declared.answers.Parking.{Parking}
-use Rattle.ipc.specs.declared.answers.Revoking.{Revoking}
-use Rattle.ipc.specs.declared.answers.Clearing.{Clearing}
-use Rattle.ipc.specs.declared.answers.Noting.{Noting}
-use Rattle.ipc.specs.declared.answers.QueuedAnswer.{QueuedAnswer}
-use Rattle.ipc.specs.declared.answers.HoldersAnswer.{HoldersAnswer}
+use Rattle.ipc_rules.specs.Answers.{createNumber, createValues, sendNumber, sendValues, recvNumber, recvValues, parkNumber, parkValues, queuedNumber, queuedValues, holdersNumber, holdersValues, revokeNumber, revokeValues, clearNumber, clearValues, noteNumber, countsNumber, countsValues}
+use Rattle.ipc_rules.specs.Counts.{noteAuthorityOf, noteStateOf}
+use Rattle.ipc_rules.specs.Create.{createOf}
+use Rattle.ipc_rules.specs.Make.{inRange, sizesOf, freshOf}
+use Rattle.ipc_rules.specs.Observe.{queuedOf, holdersOf, refusalsOf}
+use Rattle.ipc_rules.specs.Receive.{recvOf, parkOf}
+use Rattle.ipc_rules.specs.Revoke.{revokeOf}
+use Rattle.ipc_rules.specs.Send.{sendOf}
+use Rattle.ipc_rules.specs.Waiters.{clearOf}
+use Rattle.ipc_rules.specs.declared.answers.New.{New}
+use Rattle.ipc_rules.specs.declared.answers.Creation.{Creation}
+use Rattle.ipc_rules.specs.declared.answers.Sending.{Sending}
+use Rattle.ipc_rules.specs.declared.answers.Receiving.{Receiving}
+use Rattle.ipc_rules.specs.declared.answers.Parking.{Parking}
+use Rattle.ipc_rules.specs.declared.answers.Revoking.{Revoking}
+use Rattle.ipc_rules.specs.declared.answers.Clearing.{Clearing}
+use Rattle.ipc_rules.specs.declared.answers.Noting.{Noting}
+use Rattle.ipc_rules.specs.declared.answers.QueuedAnswer.{QueuedAnswer}
+use Rattle.ipc_rules.specs.declared.answers.HoldersAnswer.{HoldersAnswer}
 use Rattle.logread.specs.Little.{byteAt}
 use Rattle.operations.specs.Done.{Done, withChannels}
 use Rattle.operations.specs.Operands.{idAt, taskAt, messageAt}

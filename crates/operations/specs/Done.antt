@@ -4,7 +4,7 @@ use mathlib.Core.List.{List}
 use Prim.Native.Nat.{ℕ}
 use lib.ListN.{length}
 use Rattle.capslots.specs.declared.Table.{Table as Rows}
-use Rattle.ipc.specs.declared.state.Table.{Table as Channels}
+use Rattle.ipc_rules.specs.declared.state.Table.{Table as Channels}
 use Rattle.irqcap.specs.declared.Table.{Table as Irqs}
 use Rattle.taskcap.specs.declared.Table.{Table as Tasks}
 use Rattle.operations.specs.Values.{padded}

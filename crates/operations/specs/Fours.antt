@@ -8,15 +8,15 @@ use Rattle.cap.specs.Slot.{vacant}
 use Rattle.cap.specs.declared.slot.Slot.{Slot}
 use Rattle.capslots.specs.Rows.{drainOf}
 use Rattle.capslots.specs.declared.Drained.{Drained}
-use Rattle.ipc.specs.Answers.{releaseNumber, releaseValues}
-use Rattle.ipc.specs.Holds.{releaseOf}
-use Rattle.ipc.specs.declared.answers.Releasing.{Releasing}
+use Rattle.ipc_rules.specs.Answers.{releaseNumber, releaseValues}
+use Rattle.ipc_rules.specs.Holds.{releaseOf}
+use Rattle.ipc_rules.specs.declared.answers.Releasing.{Releasing}
 use Rattle.joined.specs.Answers.{leaveNumber, leaveValues}
 use Rattle.joined.specs.Steps.{leaveOf}
 use Rattle.joined.specs.declared.answers.Leaving.{Leaving}
 use Rattle.logread.specs.Little.{byteAt}
 use Rattle.logread.specs.Lists.{listSlots}
-use Rattle.ipc.specs.declared.state.Waiter.{Waiter}
+use Rattle.ipc_rules.specs.declared.state.Waiter.{Waiter}
 use Rattle.operations.specs.Values.{pushed}
 use Rattle.operations.specs.declared.values.Values.{Values}
 use Rattle.operations.specs.Done.{Done, withChannels, withRows}

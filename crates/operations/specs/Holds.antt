@@ -1,9 +1,9 @@
 -- Document 01, "The operation log", operation 7: the holds of a list.
 use mathlib.Core.List.{List, []}
 use Prim.Native.Nat.{ℕ}
-use Rattle.ipc.specs.Answers.{registerNumber}
-use Rattle.ipc.specs.Holds.{registerOf}
-use Rattle.ipc.specs.declared.answers.Registering.{Registering}
+use Rattle.ipc_rules.specs.Answers.{registerNumber}
+use Rattle.ipc_rules.specs.Holds.{registerOf}
+use Rattle.ipc_rules.specs.declared.answers.Registering.{Registering}
 use Rattle.logread.specs.Lists.{listWords}
 use Rattle.operations.specs.Done.{Done, withChannels}
 use Rattle.operations.specs.declared.Tables.{Tables}

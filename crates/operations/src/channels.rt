@@ -1,8 +1,8 @@
 // Operations 0, 1, 6 and 10: channels made and revoked, and a task that waits no more.
 ghost use mathlib.Core.Path.{_≡_};
-ghost use Rattle.ipc.specs.Sound.{Sound};
-ghost use Rattle.ipc.specs.Answers.{createValues, revokeValues, clearValues};
-ghost use Rattle.ipc.specs.declared.answers.CreateAnswer.the-variants.{Created};
+ghost use Rattle.ipc_rules.specs.Sound.{Sound};
+ghost use Rattle.ipc_rules.specs.Answers.{createValues, revokeValues, clearValues};
+ghost use Rattle.ipc_rules.specs.declared.answers.CreateAnswer.the-variants.{Created};
 ghost use Rattle.operations.specs.Values.{held};
 ghost use Rattle.operations.specs.Done.{packed};
 ghost use Rattle.operations.specs.Channels.{createDone, revokeDone, clearDone, newDone};
@@ -13,13 +13,13 @@ use crate::values;
 use crate::values::Values;
 use crate::values::waiter_values;
 use cap::CapId;
-use ipc::answers::ClearAnswer;
-use ipc::answers::CreateAnswer;
-use ipc::answers::NewAnswer;
-use ipc::answers::RevokeAnswer;
-use ipc::state::Channel;
-use ipc::state::Sizes;
-use ipc::state::TaskId;
+use ipc_rules::answers::ClearAnswer;
+use ipc_rules::answers::CreateAnswer;
+use ipc_rules::answers::NewAnswer;
+use ipc_rules::answers::RevokeAnswer;
+use ipc_rules::state::Channel;
+use ipc_rules::state::Sizes;
+use ipc_rules::state::TaskId;
 use laws::refusals;
 use logread::byte_at;
 use logread::u16_at;
@@ -100,7 +100,7 @@ pub fn op_create(mut t: Tables, log: &[u8]) -> Outcome
     ensures { λ r. ⌜ r ≡ packed (createDone (now (log .entry)) t) ⌝ }
 {
     let ephemeral = byte_at(log, 3) != 0;
-    let created = ipc::inner::create(t.channels, ephemeral);
+    let created = ipc_life::inner::create(t.channels, ephemeral);
     let answer = created.answer;
     let v = create_values(answer);
     let at = v.at;
@@ -122,7 +122,7 @@ pub fn op_revoke(mut t: Tables, log: &[u8]) -> Outcome
     let id = CapId {
         raw: u32_at(log, 3),
     };
-    let revoked = ipc::inner::revoke_channel(t.channels, id);
+    let revoked = ipc_life::inner::revoke_channel(t.channels, id);
     let answer = revoked.answer;
     let v = revoke_values(answer);
     let at = v.at;
@@ -145,7 +145,7 @@ pub fn op_clear_waiter(mut t: Tables, log: &[u8]) -> Outcome
         slot: u16_at(log, 3),
         epoch: u16_at(log, 5),
     };
-    let cleared = ipc::inner::clear_waiter(t.channels, task);
+    let cleared = ipc_life::inner::clear_waiter(t.channels, task);
     let answer = cleared.answer;
     let v = clear_values(answer);
     let at = v.at;

@@ -1,7 +1,7 @@
 // Operations 5, 9, 11, 12 and 27: what is queued, held and refused, counted.
 ghost use mathlib.Core.Path.{_≡_};
-ghost use Rattle.ipc.specs.Sound.{Sound};
-ghost use Rattle.ipc.specs.Answers.{queuedValues, holdersValues};
+ghost use Rattle.ipc_rules.specs.Sound.{Sound};
+ghost use Rattle.ipc_rules.specs.Answers.{queuedValues, holdersValues};
 ghost use Rattle.operations.specs.Values.{held};
 ghost use Rattle.operations.specs.Done.{packed};
 ghost use Rattle.operations.specs.Channels.{queuedDone, holdersDone, noteAuthorityDone, noteStateDone, countsDone};
@@ -10,8 +10,8 @@ use crate::Tables;
 use crate::values;
 use crate::values::Values;
 use cap::CapId;
-use ipc::answers::HoldersAnswer;
-use ipc::answers::QueuedAnswer;
+use ipc_rules::answers::HoldersAnswer;
+use ipc_rules::answers::QueuedAnswer;
 use laws::refusals;
 use logread::u32_at;
 
@@ -43,7 +43,7 @@ pub fn op_queued(t: Tables, log: &[u8]) -> Outcome
     let id = CapId {
         raw: u32_at(log, 3),
     };
-    let answer = ipc::inner::queued(t.channels, id);
+    let answer = ipc_queue::inner::queued(t.channels, id);
     let v = queued_values(answer);
     let at = v.at;
     Outcome {
@@ -62,7 +62,7 @@ pub fn op_holders(t: Tables, log: &[u8]) -> Outcome
     let id = CapId {
         raw: u32_at(log, 3),
     };
-    let answer = ipc::inner::send_holders(t.channels, id);
+    let answer = ipc_queue::inner::send_holders(t.channels, id);
     let v = holders_values(answer);
     let at = v.at;
     Outcome {
@@ -78,7 +78,7 @@ pub fn op_note_authority(mut t: Tables) -> Outcome
     requires { ⌜ Sound (t .channels) ⌝ }
     ensures { λ r. ⌜ r ≡ packed (noteAuthorityDone t) ⌝ }
 {
-    let noted = ipc::inner::note_authority_refusal(t.channels);
+    let noted = ipc_life::inner::note_authority_refusal(t.channels);
     let answer = noted.answer;
     let v = values::none();
     let at = v.at;
@@ -97,7 +97,7 @@ pub fn op_note_state(mut t: Tables) -> Outcome
     requires { ⌜ Sound (t .channels) ⌝ }
     ensures { λ r. ⌜ r ≡ packed (noteStateDone t) ⌝ }
 {
-    let noted = ipc::inner::note_state_refusal(t.channels);
+    let noted = ipc_life::inner::note_state_refusal(t.channels);
     let answer = noted.answer;
     let v = values::none();
     let at = v.at;
@@ -115,7 +115,7 @@ pub fn op_note_state(mut t: Tables) -> Outcome
 pub fn op_counts(t: Tables) -> Outcome
     ensures { λ r. ⌜ r ≡ packed (countsDone t) ⌝ }
 {
-    let counts = t.channels.refusals;
+    let counts = t.channels.counters.refusals;
     let v = values::three(
         counts.authority as u64,
         counts.full as u64,

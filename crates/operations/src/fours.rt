@@ -1,7 +1,7 @@
 // Operations 8, 18 and 25, which show four places.
 ghost use mathlib.Core.Path.{_≡_};
-ghost use Rattle.ipc.specs.Answers.{fourWaiterValues, releaseValues};
-ghost use Rattle.ipc.specs.Sound.{Sound};
+ghost use Rattle.ipc_rules.specs.Answers.{fourWaiterValues, releaseValues};
+ghost use Rattle.ipc_rules.specs.Sound.{Sound};
 ghost use Rattle.joined.specs.Answers.{leaveValues};
 ghost use Rattle.operations.specs.Done.{packed};
 ghost use Rattle.operations.specs.Fours.{waiterPushed, slotPushed, fourShown, releaseDone, drainDone, leaveDone};
@@ -12,8 +12,8 @@ use crate::values;
 use crate::values::Values;
 use crate::values::push;
 use cap::Slot;
-use ipc::answers::ReleaseAnswer;
-use ipc::state::Waiter;
+use ipc_rules::answers::ReleaseAnswer;
+use ipc_rules::state::Waiter;
 use joined::LeaveAnswer;
 use laws::refusals;
 use logread::byte_at;
@@ -81,7 +81,7 @@ pub fn op_release(mut t: Tables, log: &[u8]) -> Outcome
     requires { ⌜ Sound (t .channels) ⌝ }
     ensures { λ r. ⌜ r ≡ packed (releaseDone (now (log .entry)) t) ⌝ }
 {
-    let freed = ipc::inner::release_holds(t.channels, logread::list_slots(log, 3));
+    let freed = ipc_holds::inner::release_holds(t.channels, logread::list_slots(log, 3));
     let answer = freed.answer;
     let waiters = freed.waiters;
     let v = release_values(answer, waiters);

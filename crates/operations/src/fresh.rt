@@ -1,10 +1,10 @@
 // Fresh tables.
 ghost use mathlib.Core.Path.{_≡_};
-ghost use Rattle.ipc.specs.Make.{newOf};
+ghost use Rattle.ipc_rules.specs.Make.{newOf};
 ghost use Rattle.operations.specs.Channels.{freshBy};
 use crate::Tables;
-use ipc::answers::NewAnswer;
-use ipc::state::Sizes;
+use ipc_rules::answers::NewAnswer;
+use ipc_rules::state::Sizes;
 
 // Tables that nothing happened to, and whether the channel table has the sizes asked for.
 pub struct Fresh {
@@ -17,7 +17,7 @@ pub struct Fresh {
 pub fn all_fresh(sizes: Sizes) -> Fresh
     ensures { λ r. ⌜ r ≡ freshBy (newOf (sizes .mailboxes) (sizes .endpoints) (sizes .depth)) ⌝ }
 {
-    let made = ipc::new(sizes.mailboxes, sizes.endpoints, sizes.depth);
+    let made = ipc_life::making::new(sizes.mailboxes, sizes.endpoints, sizes.depth);
     let answer = made.answer;
     let channels = made.table;
     Fresh {

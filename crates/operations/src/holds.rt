@@ -1,6 +1,6 @@
 // Operation 7: the holds of a list.
 ghost use mathlib.Core.Path.{_≡_};
-ghost use Rattle.ipc.specs.Sound.{Sound};
+ghost use Rattle.ipc_rules.specs.Sound.{Sound};
 ghost use Rattle.operations.specs.Done.{packed};
 ghost use Rattle.operations.specs.Holds.{registerDone};
 use crate::Outcome;
@@ -14,7 +14,7 @@ pub fn op_register(mut t: Tables, log: &[u8]) -> Outcome
     ensures { λ r. ⌜ r ≡ packed (registerDone (now (log .entry)) t) ⌝ }
 {
     let words = list_words(log, 3);
-    let registered = ipc::inner::register_holds(t.channels, &words);
+    let registered = ipc_holds::inner::register_holds(t.channels, &words);
     let answer = registered.answer;
     let v = values::none();
     let at = v.at;

@@ -1,6 +1,6 @@
 // The log's operations on tables whose channel table is known to be sound.
 ghost use mathlib.Core.Path.{_≡_};
-ghost use Rattle.ipc.specs.Sound.{Sound};
+ghost use Rattle.ipc_rules.specs.Sound.{Sound};
 ghost use Rattle.operations.specs.Apply.{applyOf, unknownDone};
 ghost use Rattle.operations.specs.Done.{packed};
 use crate::Outcome;

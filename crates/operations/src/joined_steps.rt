@@ -1,6 +1,6 @@
 // Operations 24 and 26: spawn and give.
 ghost use mathlib.Core.Path.{_≡_};
-ghost use Rattle.ipc.specs.Sound.{Sound};
+ghost use Rattle.ipc_rules.specs.Sound.{Sound};
 ghost use Rattle.operations.specs.Done.{packed};
 ghost use Rattle.operations.specs.Joined.{spawnDone, giveDone};
 use crate::Outcome;

@@ -16,7 +16,7 @@ mod values;
 use capslots::Table as Rows;
 pub use fresh::Fresh;
 pub use fresh::all_fresh;
-use ipc::state::Table as Channels;
+use ipc_rules::state::Table as Channels;
 use irqcap::Table as Irqs;
 use taskcap::Table as Tasks;
 

@@ -1,8 +1,8 @@
 // Operations 2, 3 and 4: messages sent, received and waited for.
 ghost use mathlib.Core.Path.{_≡_};
 ghost use mathlib.Core.List.{_∷_};
-ghost use Rattle.ipc.specs.Sound.{Sound};
-ghost use Rattle.ipc.specs.Answers.{messageValues, sendValues, recvValues, parkValues};
+ghost use Rattle.ipc_rules.specs.Sound.{Sound};
+ghost use Rattle.ipc_rules.specs.Answers.{messageValues, sendValues, recvValues, parkValues};
 ghost use Rattle.operations.specs.Values.{held};
 ghost use Rattle.operations.specs.Done.{packed};
 ghost use Rattle.operations.specs.Channels.{sendDone, receiveDone, parkDone};
@@ -12,11 +12,11 @@ use crate::values;
 use crate::values::Values;
 use crate::values::waiter_values;
 use cap::CapId;
-use ipc::answers::ParkAnswer;
-use ipc::answers::RecvAnswer;
-use ipc::answers::SendAnswer;
-use ipc::state::Message;
-use ipc::state::TaskId;
+use ipc_rules::answers::ParkAnswer;
+use ipc_rules::answers::RecvAnswer;
+use ipc_rules::answers::SendAnswer;
+use ipc_rules::state::Message;
+use ipc_rules::state::TaskId;
 use logread::u16_at;
 use logread::u32_at;
 use logread::u64_at;
@@ -81,7 +81,7 @@ pub fn op_send(mut t: Tables, log: &[u8]) -> Outcome
         a: u64_at(log, 11),
         b: u64_at(log, 19),
     };
-    let sent = ipc::inner::send(t.channels, id, msg);
+    let sent = ipc_queue::inner::send(t.channels, id, msg);
     let answer = sent.answer;
     let v = send_values(answer);
     let at = v.at;
@@ -103,7 +103,7 @@ pub fn op_receive(mut t: Tables, log: &[u8]) -> Outcome
     let id = CapId {
         raw: u32_at(log, 3),
     };
-    let received = ipc::inner::try_recv(t.channels, id);
+    let received = ipc_queue::inner::try_recv(t.channels, id);
     let answer = received.answer;
     let v = recv_values(answer);
     let at = v.at;
@@ -129,7 +129,7 @@ pub fn op_park(mut t: Tables, log: &[u8]) -> Outcome
         slot: u16_at(log, 7),
         epoch: u16_at(log, 9),
     };
-    let parked = ipc::inner::park(t.channels, id, task);
+    let parked = ipc_queue::inner::park(t.channels, id, task);
     let answer = parked.answer;
     let v = park_values(answer);
     let at = v.at;

@@ -1,9 +1,9 @@
 // The values that a line shows, at most twelve.
 ghost use mathlib.Core.Path.{_≡_};
 ghost use mathlib.Core.List.{[], _∷_};
-ghost use Rattle.ipc.specs.Answers.{waiterValues};
+ghost use Rattle.ipc_rules.specs.Answers.{waiterValues};
 ghost use Rattle.operations.specs.Values.{held, pushed};
-use ipc::state::Waiter;
+use ipc_rules::state::Waiter;
 
 // `count` values stand first, and what follows them is 0.
 pub struct Values {

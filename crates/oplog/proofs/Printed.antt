@@ -11,10 +11,10 @@ use borrow.Author.Tests.{lt-ltb, le-ltb, le-leb, ne-eqb, eqb-true, eqb-false, lt
 use Rattle.laws.specs.Pick.{pick}
 use Rattle.laws.specs.Refusals as no
 use Rattle.laws.proofs.Cases.{all-pick, not-both}
-use Rattle.ipc.specs.Sound.{Sound}
-use Rattle.ipc.specs.Make.{sizesOf}
-use Rattle.ipc.proofs.Decide.{test-of}
-use Rattle.ipc.proofs.Fresh.{in-range-of, fresh-sound}
+use Rattle.ipc_rules.specs.Sound.{Sound}
+use Rattle.ipc_rules.specs.Make.{sizesOf}
+use Rattle.ipc_sound.proofs.Decide.{test-of}
+use Rattle.ipc_rules.proofs.Fresh.{in-range-of, fresh-sound}
 use Rattle.line.specs.Put.{written, putOf}
 use Rattle.line.specs.declared.Written.{Written}
 use Rattle.line.specs.declared.Written.the-variants.{Upto, NoRoom as Crowded}

@@ -11,7 +11,7 @@ use Rattle.laws.specs.Pick.{pick}
 use Rattle.laws.specs.Refusals as no
 use Rattle.laws.proofs.Cases.{all-pick}
 use Rattle.laws.proofs.Every.{and-left, and-right}
-use Rattle.ipc.specs.SoundTest.{soundTest}
+use Rattle.ipc_sound.specs.SoundTest.{soundTest}
 use Rattle.line.specs.Line.{endOf, badOf}
 use Rattle.line.specs.Put.{written, putOf, fromTail}
 use Rattle.line.specs.declared.Written.{Written}

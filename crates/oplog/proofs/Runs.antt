@@ -12,7 +12,7 @@ use Rattle.line.proofs.Room.{whole-tail}
 use Rattle.logread.specs.Read.{readOf}
 use Rattle.logread.specs.declared.Read as read
 use Rattle.logread.proofs.Records.{whole}
-use Rattle.ipc.specs.Sound.{Sound}
+use Rattle.ipc_rules.specs.Sound.{Sound}
 use Rattle.operations.specs.declared.Tables.{Tables}
 use Rattle.operations.proofs.Applied.{apply-kept}
 use Rattle.oplog.specs.Step.{stepNumber, reading, writing, stepOf, stepOut}

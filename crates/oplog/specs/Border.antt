@@ -1,7 +1,7 @@
 -- Document 01, refusal 27: a step that is lent an unsound channel table refuses it first of all, writes nothing and keeps the tables.
 use mathlib.Core.List.{List}
 use Prim.Native.Nat.{ℕ}
-use Rattle.ipc.specs.Border.{guarded}
+use Rattle.ipc_sound.specs.Border.{guarded}
 use Rattle.operations.specs.declared.Tables.{Tables}
 use Rattle.oplog.specs.Step.{refusedStep, stepOf, stepOut}
 use Rattle.oplog.specs.declared.StepAnswer.the-variants.{BadTable}

@@ -7,8 +7,8 @@ use lib.ListN.{length, take, drop}
 use lib.Dec.{leb, ltb, eqb}
 use Rattle.laws.specs.Pick.{pick}
 use Rattle.laws.specs.Refusals as no
-use Rattle.ipc.specs.Sound.{Sound}
-use Rattle.ipc.specs.SoundTest.{soundTest}
+use Rattle.ipc_rules.specs.Sound.{Sound}
+use Rattle.ipc_sound.specs.SoundTest.{soundTest}
 use Rattle.line.specs.Line.{endOf, badOf}
 use Rattle.line.specs.Put.{written, putOf}
 use Rattle.oplog.specs.Step.{stepNumber, writing}

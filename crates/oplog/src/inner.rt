@@ -2,7 +2,7 @@
 ghost use mathlib.Core.Path.{_≡_};
 ghost use Prim.Native.Nat.{_+_, _<_, _^_};
 ghost use lib.ListN.{length};
-ghost use Rattle.ipc.specs.Sound.{Sound};
+ghost use Rattle.ipc_rules.specs.Sound.{Sound};
 ghost use Rattle.oplog.specs.Run.{runOf};
 ghost use Rattle.oplog.specs.Step.{stepOf, stepOut};
 use crate::Ran;

@@ -62,7 +62,7 @@ pub fn step(log: &[u8], number: u64, out: &mut [u8], at: usize, t: Tables) -> St
     ensures buffer { λ _. ⌜ now (out .exit) ≡ stepLeaves (now (log .entry)) number (now (out .entry)) at t ⌝ }
 {
     let channels = t.channels;
-    if !ipc::sound::sound(channels) {
+    if !ipc_sound::sound(channels) {
         return Stepped {
             answer: StepAnswer::BadTable,
             used: 0,

@@ -7,7 +7,7 @@ ghost use Rattle.oplog.specs.Replay.{lastLine, lastOf, replayOf};
 ghost use Rattle.oplog.specs.Text.{startOf};
 use crate::StepAnswer;
 use crate::inner;
-use ipc::state::Sizes;
+use ipc_rules::state::Sizes;
 use laws::refusals;
 use line::Written;
 use operations::Tables;
@@ -89,7 +89,7 @@ pub fn replay(log: &[u8], out: &mut [u8], from: Place) -> Part
     let done = from.done;
     let tables = from.tables;
     let channels = tables.channels;
-    let sound = ipc::sound::sound(channels);
+    let sound = ipc_sound::sound(channels);
     if !((offset <= log.len()) & (done <= offset as u64) & sound) {
         return Part {
             answer: StepAnswer::BadTable,

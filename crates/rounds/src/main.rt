@@ -1,9 +1,9 @@
 // Calls in a loop, for measuring: the first byte of the input picks the loop, and the sum of what came out is printed, so that no
 // loop can be left out. `bench/calls` times it beside the Rust's.
 use cap::CapId;
-use ipc::answers::RecvAnswer;
-use ipc::state::Message;
-use ipc::state::Table;
+use ipc_rules::answers::RecvAnswer;
+use ipc_rules::state::Message;
+use ipc_rules::state::Table;
 use libc::STDIN_FILENO;
 use libc::STDOUT_FILENO;
 
@@ -13,16 +13,16 @@ const ROUNDS: u64 = 1000000;
 fn interior(n: u64) -> u64 {
     let made = ipc::new(32, 64, 8);
     let fresh = made.table;
-    let creation = ipc::inner::create(fresh, false);
+    let creation = ipc_life::inner::create(fresh, false);
     let mut t = creation.table;
     let send = CapId::from_raw(65536);
     let recv = CapId::from_raw(65537);
     let mut sum: u64 = 0;
     let mut i: u64 = 0;
     while i < n {
-        let sent = ipc::inner::send(t, send, Message { tag: 1, a: i, b: i });
+        let sent = ipc_queue::inner::send(t, send, Message { tag: 1, a: i, b: i });
         let between = sent.table;
-        let got = ipc::inner::try_recv(between, recv);
+        let got = ipc_queue::inner::try_recv(between, recv);
         let answer = got.answer;
         if let RecvAnswer::Received(m) = answer {
             sum = std::num::wrapping_add_u64(sum, m.a);
@@ -68,10 +68,10 @@ fn tested(n: u64) -> u64 {
     let mut sum: u64 = 0;
     let mut i: u64 = 0;
     while i < n {
-        if ipc::sound::sound(t) {
+        if ipc_sound::sound(t) {
             sum = std::num::wrapping_add_u64(sum, 1);
         }
-        t.next_gen = (i % 65535) as u16;
+        t.counters.next_gen = (i % 65535) as u16;
         i += 1;
     }
     sum

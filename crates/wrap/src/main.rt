@@ -1,10 +1,10 @@
 // Document 01's edge that no log is long enough for: channel 1 is revoked at once; its ids open nothing through 65,534 more creations,
 // and after the next they open again. One mailbox serves every channel, so each creation takes the first one's ends.
 use cap::CapId;
-use ipc::answers::CreateAnswer;
-use ipc::answers::QueuedAnswer;
-use ipc::state::Channel;
-use ipc::state::Table;
+use ipc_rules::answers::CreateAnswer;
+use ipc_rules::answers::QueuedAnswer;
+use ipc_rules::state::Channel;
+use ipc_rules::state::Table;
 use libc::STDOUT_FILENO;
 
 const CLOSED: u32 = 65534;

@@ -1,6 +1,6 @@
 -- `ipc::refusals` meets its contract. Assumes nothing.
 use mathlib.Core.Path.{refl}
-use Rattle.ipc.proofs.Guards.{refused, served}
+use Rattle.ipc_sound.proofs.Guards.{refused, served}
 use borrow.Author.Needs.{needs}
 use Rattle.ipc.proofs.refusals.Statement.{statement}
 use Rattle.ipc.proofs.refusals.Tie as tie

@@ -1,8 +1,8 @@
 -- `joined::spawn` meets its contract: the test, and the step on a table that passed it. Assumes nothing.
 use borrow.Author.Needs.{needs}
 use Rattle.laws.proofs.Lists.{unmapped}
-use Rattle.ipc.specs.State.{Shape}
-use Rattle.ipc.proofs.Guards.{refused, served, passed}
+use Rattle.ipc_rules.specs.State.{Shape}
+use Rattle.ipc_sound.proofs.Guards.{refused, served, passed}
 use Rattle.joined.proofs.spawn.Statement.{statement}
 use Rattle.joined.proofs.spawn.Tie as tie
 

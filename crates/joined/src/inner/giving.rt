@@ -1,6 +1,6 @@
 // Give: one id more in a row.
 ghost use mathlib.Core.Path.{_≡_};
-ghost use Rattle.ipc.specs.Sound.{Sound};
+ghost use Rattle.ipc_rules.specs.Sound.{Sound};
 ghost use Rattle.joined.specs.Steps.{giveOf};
 use crate::answers::GiveAnswer;
 use crate::answers::Giving;
@@ -8,7 +8,7 @@ use cap::CapId;
 use cap::Slot;
 use capslots::InstallAnswer;
 use capslots::Table as Rows;
-use ipc::state::Table as Channels;
+use ipc_rules::state::Table as Channels;
 
 // Installs the id and, where that succeeds, registers it. An id that opens nothing is given all the same, and holds nothing.
 pub fn give(channels: Channels, rows: Rows, row: usize, slot: usize, id: CapId) -> Giving
@@ -26,7 +26,7 @@ pub fn give(channels: Channels, rows: Rows, row: usize, slot: usize, id: CapId) 
     };
     let filled = installed.table;
     let list = [cap::word_of(Slot { present: true, id })];
-    let registered = ipc::inner::register_holds(channels, &list);
+    let registered = ipc_holds::inner::register_holds(channels, &list);
     let held = registered.table;
     Giving {
         answer: GiveAnswer::Given,

@@ -1,13 +1,13 @@
 // Leave: a task's row on its exit.
 ghost use mathlib.Core.Path.{_≡_};
-ghost use Rattle.ipc.specs.Sound.{Sound};
+ghost use Rattle.ipc_rules.specs.Sound.{Sound};
 ghost use Rattle.joined.specs.Steps.{leaveOf};
 use crate::answers::LeaveAnswer;
 use crate::answers::Leaving;
 use crate::answers::NOBODY;
 use capslots::ROWS;
 use capslots::Table as Rows;
-use ipc::state::Table as Channels;
+use ipc_rules::state::Table as Channels;
 
 // Drains the row and releases its four, with the waiters that this takes out.
 pub fn leave(channels: Channels, rows: Rows, row: usize) -> Leaving
@@ -25,7 +25,7 @@ pub fn leave(channels: Channels, rows: Rows, row: usize) -> Leaving
     let drained = capslots::drain(rows, row);
     let slots = drained.slots;
     let emptied = drained.table;
-    let released = ipc::inner::release_holds(channels, slots);
+    let released = ipc_holds::inner::release_holds(channels, slots);
     let waiters = released.waiters;
     let freed = released.table;
     Leaving {

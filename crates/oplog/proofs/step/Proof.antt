@@ -2,8 +2,8 @@
 use mathlib.Core.Path.{refl}
 use borrow.Author.Needs.{needs}
 use Rattle.laws.proofs.Lists.{unmapped}
-use Rattle.ipc.specs.State.{Shape}
-use Rattle.ipc.proofs.Guards.{refused, served, passed}
+use Rattle.ipc_rules.specs.State.{Shape}
+use Rattle.ipc_sound.proofs.Guards.{refused, served, passed}
 use Rattle.oplog.proofs.step.Statement.{statement}
 use Rattle.oplog.proofs.step.Tie as tie
 

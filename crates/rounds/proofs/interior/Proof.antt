@@ -2,10 +2,10 @@
 use Prim.Native.Nat.{_-_}
 use native.Mathlib.Omega.{arith}
 use borrow.Author.Needs.{needs}
-use Rattle.ipc.specs.Sound.{Sound}
-use Rattle.ipc.proofs.Fresh.{new-sound}
-use Rattle.ipc.proofs.KeepsCreate.{create-kept}
-use Rattle.ipc.proofs.KeepsCalls.{send-kept, recv-kept}
+use Rattle.ipc_rules.specs.Sound.{Sound}
+use Rattle.ipc_rules.proofs.Fresh.{new-sound}
+use Rattle.ipc_rules.proofs.KeepsCreate.{create-kept}
+use Rattle.ipc_rules.proofs.KeepsCalls.{send-kept, recv-kept}
 use Rattle.rounds.proofs.interior.Statement.{statement}
 use Rattle.rounds.proofs.interior.Tie as tie
 

@@ -6,9 +6,9 @@ use borrow.Author.Tests.{not-false}
 use Rattle.laws.proofs.Cases.{cases, yes}
 use Rattle.laws.proofs.Lists.{unmapped}
 use Rattle.cap.specs.declared.slot.Slot.{Slot}
-use Rattle.ipc.specs.State.{Shape}
-use Rattle.ipc.specs.Holds.{registered}
-use Rattle.ipc.specs.declared.state.Table.{Table}
+use Rattle.ipc_rules.specs.State.{Shape}
+use Rattle.ipc_rules.specs.Holds.{registered}
+use Rattle.ipc_rules.specs.declared.state.Table.{Table}
 use Rattle.lent.specs.Holds.{held}
 use Rattle.lent.specs.declared.holds.Holding.{Holding}
 use Rattle.lent.proofs.holds.hold.Statement.{statement}
@@ -26,11 +26,11 @@ returns : tie.Need-returns
 unfolding held
 returns c = search cases
 
-register-requires : tie.Need-register-requires
-register-requires c κs = c .before .before .before .pre (not-false _ (c .before .if1 .left)) (shape (c .before .before .before))
+register-one-requires : tie.Need-register-one-requires
+register-one-requires c κs = c .before .before .before .pre (not-false _ (c .before .if1 .left)) (shape (c .before .before .before))
 
 returns-2 : tie.Need-returns-2
-returns-2 c = registered-in _ _ (not-false _ (c .before .before .if1 .left)) (c .register .ensures)
+returns-2 c = registered-in _ _ (not-false _ (c .before .before .if1 .left)) (c .register-one .ensures)
 
 pub hold-spec : {M : Type 1} → statement M
-hold-spec = tie.close (tie.spec returns register-requires returns-2)
+hold-spec = tie.close (tie.spec returns register-one-requires returns-2)

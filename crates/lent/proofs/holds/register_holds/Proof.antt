@@ -9,12 +9,12 @@ use Rattle.walks.proofs.Each as walk
 use Rattle.cap.specs.Slot.{vacant}
 use Rattle.lent.specs.Holds.{Tested, begun, held, finished, registerSlots}
 use Rattle.lent.proofs.Registering.{register-same, begun-tested, held-tested}
-use Rattle.ipc.proofs.state.Table as B
-use Rattle.ipc.proofs.state.Table.Laws as B′
+use Rattle.ipc_rules.proofs.state.Table as B
+use Rattle.ipc_rules.proofs.state.Table.Laws as B′
 use Rattle.lent.proofs.holds.Holding as S
 use Rattle.lent.proofs.holds.Holding.Laws as S′
-use Rattle.ipc.proofs.answers.Registering as R
-use Rattle.ipc.proofs.answers.Registering.Laws as R′
+use Rattle.ipc_rules.proofs.answers.Registering as R
+use Rattle.ipc_rules.proofs.answers.Registering.Laws as R′
 use Rattle.cap.proofs.slot.Slot as E
 use Rattle.cap.proofs.slot.Slot.Laws as E′
 use Rattle.lent.proofs.holds.begin as begin

@@ -6,8 +6,8 @@ use denote.Triple.Table.{entered, cited}
 use Rattle.walks.proofs.Records.{Kind}
 use Rattle.walks.proofs.StructLent as walk
 use Rattle.lent.specs.Counts.{stateNoted}
-use Rattle.ipc.proofs.state.Refusals as S
-use Rattle.ipc.proofs.state.Refusals.Laws as S′
+use Rattle.ipc_rules.proofs.state.Refusals as S
+use Rattle.ipc_rules.proofs.state.Refusals.Laws as S′
 use Rattle.lent.proofs.note_state_refusal as g
 use Rattle.lent.proofs.note_state_refusal.Symbol as g-def
 use Rattle.lent.proofs.note_state_refusal.Met as g-thm

@@ -7,10 +7,10 @@ use denote.Triple.Table.{entered, cited}
 use Rattle.walks.proofs.Records.{Kind}
 use Rattle.walks.proofs.FirstLent as walk
 use Rattle.lent.specs.Holds.{registerSlots}
-use Rattle.ipc.proofs.state.Table as B
-use Rattle.ipc.proofs.state.Table.Laws as B′
-use Rattle.ipc.proofs.answers.Registering as R
-use Rattle.ipc.proofs.answers.Registering.Laws as R′
+use Rattle.ipc_rules.proofs.state.Table as B
+use Rattle.ipc_rules.proofs.state.Table.Laws as B′
+use Rattle.ipc_rules.proofs.answers.Registering as R
+use Rattle.ipc_rules.proofs.answers.Registering.Laws as R′
 use Rattle.cap.proofs.slot.Slot as E
 use Rattle.cap.proofs.slot.Slot.Laws as E′
 use Rattle.lent.proofs.register_holds as g

@@ -2,7 +2,7 @@
 use mathlib.Core.Path.{_≡_}
 use mathlib.Core.Bool.{true, false}
 use Rattle.laws.specs.Pick.{pick}
-use Rattle.ipc.specs.declared.state.Waiter.{Waiter}
+use Rattle.ipc_rules.specs.declared.state.Waiter.{Waiter}
 use Rattle.operations.specs.Fours.{waiterPushed}
 use Rattle.operations.specs.Values.{pushed}
 use Rattle.operations.specs.declared.values.Values.{Values}

@@ -3,8 +3,8 @@ use mathlib.Core.Path.{_≡_}
 use mathlib.Core.Bool.{true, false}
 use mathlib.Core.List.{[], _∷_}
 use Rattle.laws.specs.Pick.{pick}
-use Rattle.ipc.specs.Answers.{waiterValues}
-use Rattle.ipc.specs.declared.state.Waiter.{Waiter}
+use Rattle.ipc_rules.specs.Answers.{waiterValues}
+use Rattle.ipc_rules.specs.declared.state.Waiter.{Waiter}
 use Rattle.operations.specs.Values.{held}
 use Rattle.operations.specs.declared.values.Values.{Values}
 use borrow.Author.Needs.{needs}

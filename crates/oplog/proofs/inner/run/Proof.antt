@@ -5,7 +5,7 @@ use Prim.Native.Nat.{suc, _+_, _-_, _≤_, _<_}
 use native.Mathlib.Omega.{arith}
 use lib.ListN.{length}
 use borrow.Author.Needs.{needs}
-use Rattle.ipc.specs.Sound.{Sound}
+use Rattle.ipc_rules.specs.Sound.{Sound}
 use Rattle.oplog.specs.Run.{runFrom, runOf}
 use Rattle.oplog.proofs.Runs.{last, stops, within, goes, still-sound, tail-long}
 use Rattle.oplog.proofs.inner.run.Statement.{statement}

@@ -4,8 +4,8 @@ use lib.ListN.{length, take, drop}
 use native.Mathlib.Omega.{arith}
 use mathlib.Core.Path.{sym, _∙_}
 use Rattle.laws.proofs.Lists.{unmapped}
-use Rattle.ipc.specs.State.{Shape}
-use Rattle.ipc.proofs.Decide.{sound-of}
+use Rattle.ipc_rules.specs.State.{Shape}
+use Rattle.ipc_sound.proofs.Decide.{sound-of}
 use Rattle.oplog.proofs.Runs.{tail-long}
 use Rattle.oplog.proofs.Replays.{refuses, inside, counted, sound-test, too-long, ran-within, no-room, ends}
 use Rattle.oplog.proofs.Printed.{ran-inside}

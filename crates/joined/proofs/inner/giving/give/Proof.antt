@@ -11,9 +11,9 @@ use Rattle.capslots.specs.Rows.{installOf}
 use Rattle.capslots.specs.declared.Table.{Table as Rows}
 use Rattle.capslots.specs.declared.Installed.{Installed as Installing}
 use Rattle.capslots.specs.declared.answers.InstallAnswer.the-variants.{Installed, BadSlot as Occupied}
-use Rattle.ipc.specs.Holds.{registerOf}
-use Rattle.ipc.specs.declared.state.Table.{Table as Channels}
-use Rattle.ipc.specs.declared.answers.Registering.{Registering}
+use Rattle.ipc_rules.specs.Holds.{registerOf}
+use Rattle.ipc_rules.specs.declared.state.Table.{Table as Channels}
+use Rattle.ipc_rules.specs.declared.answers.Registering.{Registering}
 use Rattle.joined.specs.Steps.{giveRefused, giveOf}
 use Rattle.joined.specs.declared.answers.Giving.{Giving}
 use Rattle.joined.specs.declared.answers.GiveAnswer.the-variants.{Given, BadSlot}

@@ -7,9 +7,9 @@ use Rattle.laws.proofs.Cases.{cases, no}
 use Rattle.capslots.specs.Rows.{drainOf}
 use Rattle.capslots.specs.declared.Table.{Table as Rows}
 use Rattle.capslots.specs.declared.Drained.{Drained}
-use Rattle.ipc.specs.Holds.{releaseOf}
-use Rattle.ipc.specs.declared.state.Table.{Table as Channels}
-use Rattle.ipc.specs.declared.answers.Releasing.{Releasing}
+use Rattle.ipc_rules.specs.Holds.{releaseOf}
+use Rattle.ipc_rules.specs.declared.state.Table.{Table as Channels}
+use Rattle.ipc_rules.specs.declared.answers.Releasing.{Releasing}
 use Rattle.joined.specs.Steps.{leaveOf}
 use Rattle.joined.specs.declared.answers.Leaving.{Leaving}
 use Rattle.joined.specs.declared.answers.LeaveAnswer.the-variants.{Left}

@@ -10,9 +10,9 @@ use Rattle.cap.specs.Word.{wordsRead}
 use Rattle.capslots.specs.Rows.{seedOf}
 use Rattle.capslots.specs.declared.Table.{Table as Rows}
 use Rattle.capslots.specs.declared.Seeded.{Seeded as Seeding}
-use Rattle.ipc.specs.Holds.{registerOf}
-use Rattle.ipc.specs.declared.state.Table.{Table as Channels}
-use Rattle.ipc.specs.declared.answers.Registering.{Registering}
+use Rattle.ipc_rules.specs.Holds.{registerOf}
+use Rattle.ipc_rules.specs.declared.state.Table.{Table as Channels}
+use Rattle.ipc_rules.specs.declared.answers.Registering.{Registering}
 use Rattle.joined.specs.Steps.{spawnOf}
 use Rattle.joined.specs.declared.answers.Spawning.{Spawning}
 use Rattle.joined.specs.declared.answers.SpawnAnswer.the-variants.{Spawned}

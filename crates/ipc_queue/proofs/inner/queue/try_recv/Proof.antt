@@ -1,0 +1,116 @@
+-- `ipc::inner::queue::try_recv` meets its contract. As for `send`. Assumes nothing.
+use mathlib.Core.Path.{_≡_, sym, _∙_}
+use native.Mathlib.Omega.{arith}
+use borrow.Author.Tests.{not-true}
+use Rattle.laws.proofs.Cases.{cases, not-both}
+use Rattle.cap.specs.Rights.{receiveRight}
+use Rattle.ipc_rules.specs.Opening.{openingOf}
+use Rattle.ipc_rules.specs.Receive.{recvOf}
+use Rattle.ipc_rules.proofs.Openings.{openings, open-gave, opens-within, Within}
+use borrow.Author.Needs.{needs}
+use Rattle.ipc_queue.proofs.inner.queue.try_recv.Statement.{statement}
+use Rattle.ipc_queue.proofs.inner.queue.try_recv.Tie as tie
+
+-- what `open` gave is what the rule asks
+gave : (c : tie.After-open) → let a = c .before .before .before .args in c .open .result ≡ openingOf (a .t1) (a .cap) receiveRight
+gave c = open-gave _ _ _ (c .before .before .before .pre) _ _ (c .before .before .index .ensures) (c .open .ensures)
+
+-- what opened is a live mailbox within the arrays
+inside : (c : tie.After-known-told) → Within (c .before .before .before .before .before .before .args .t1) (c .before .k .given .0 .0)
+inside c = opens-within _ _ _ _ (c .before .before .before .before .before .before .pre) (sym (gave (c .before .before .before)) ∙ c .before .k .given .1)
+
+index-requires : tie.Need-index-requires
+index-requires c κs = search needs
+
+cast-i : tie.Need-cast-i
+cast-i c = search needs
+
+mul-ep : tie.Need-mul-ep
+mul-ep c = search needs
+
+element-copy-out-ep : tie.Need-element-copy-out-ep
+element-copy-out-ep c = search needs
+
+open-requires : tie.Need-open-requires
+open-requires c κs = search needs
+
+enum-known-k : tie.Need-enum-known-k
+enum-known-k c = search needs
+
+enum-told : tie.Need-enum-told
+enum-told c = search needs
+
+raised-requires : tie.Need-raised-requires
+raised-requires c κs = search needs
+
+returns : tie.Need-returns
+unfolding recvOf
+returns c = rw (c .before .raised .ensures) (search (cases, openings, gave))
+
+mul-b : tie.Need-mul-b
+mul-b c = omega (arith, inside c)
+
+element-copy-out-b : tie.Need-element-copy-out-b
+element-copy-out-b c = omega (arith, inside c)
+
+raised-requires-2 : tie.Need-raised-requires-2
+raised-requires-2 c κs = search needs
+
+returns-2 : tie.Need-returns-2
+returns-2 c = absurd (not-both _ (inside (c .before .before .before .before .before) .live) (not-true _ (c .before .before .if1 .taken)))
+
+returns-3 : tie.Need-returns-3
+unfolding recvOf
+returns-3 c = search (cases, openings, gave)
+
+mul-msg : tie.Need-mul-msg
+mul-msg c = omega (arith, inside (c .before .before .before .before .before))
+
+add-msg : tie.Need-add-msg
+add-msg c = omega (arith, inside (c .before .before .before .before .before .before))
+
+mul-msg-2 : tie.Need-mul-msg-2
+mul-msg-2 c = omega (arith, inside (c .before .before .before .before .before .before))
+
+element-copy-out-msg : tie.Need-element-copy-out-msg
+element-copy-out-msg c = omega (arith, inside (c .before .before .before .before .before .before))
+
+drained-requires : tie.Need-drained-requires
+drained-requires c κs = omega (arith, inside (c .before .before .before .before .before .before .before))
+
+mul-t31 : tie.Need-mul-t31
+mul-t31 c = omega (arith, inside (c .before .before .before .before .before .before .before .before))
+
+element-set-from-t : tie.Need-element-set-from-t
+element-set-from-t c = omega (arith, inside (c .before .before .before .before .before .before .before .before))
+
+returns-4 : tie.Need-returns-4
+unfolding recvOf
+returns-4 c = rw (c .drained .ensures) (search (cases, openings, gave))
+
+pub try-recv-spec : {M : Type 1} → statement M
+try-recv-spec =
+    tie.close
+    (tie.spec
+    index-requires
+    cast-i
+    mul-ep
+    element-copy-out-ep
+    open-requires
+    enum-known-k
+    enum-told
+    raised-requires
+    returns
+    mul-b
+    element-copy-out-b
+    raised-requires-2
+    returns-2
+    returns-3
+    mul-msg
+    add-msg
+    mul-msg-2
+    element-copy-out-msg
+    drained-requires
+    mul-t31
+    element-set-from-t
+    returns-4)

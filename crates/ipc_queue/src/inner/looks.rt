@@ -1,0 +1,45 @@
+// The calls that only look.
+ghost use mathlib.Core.Path.{_≡_};
+ghost use Rattle.ipc_rules.specs.Sound.{Sound};
+ghost use Rattle.ipc_rules.specs.Observe.{queuedOf, holdersOf};
+use cap::CapId;
+use cap::CapRights;
+use ipc_parts::opening::open;
+use ipc_parts::opening::open_either;
+use ipc_rules::answers::HoldersAnswer;
+use ipc_rules::answers::QueuedAnswer;
+use ipc_rules::opening::Opening;
+use ipc_rules::state::MAX_ENDPOINTS;
+use ipc_rules::state::Table;
+
+// How many messages wait. Either end may ask, and no count is raised.
+pub fn queued(t: Table, cap: CapId) -> QueuedAnswer
+    requires { ⌜ Sound t ⌝ }
+    ensures { λ r. ⌜ r ≡ queuedOf t cap ⌝ }
+{
+    let i = cap.index() as usize;
+    let ep = t.endpoints[i % MAX_ENDPOINTS];
+    let Opening::Opens(k) = open_either(i < t.sizes.endpoints, ep, cap) else {
+        return QueuedAnswer::BadCap;
+    };
+    let b = t.mailboxes[k];
+    // The Rust's guard, which raises no count here: no sound table gets here.
+    if !b.live {
+        return QueuedAnswer::BadCap;
+    }
+    QueuedAnswer::Queued(b.ring.len)
+}
+
+// How many slots hold the send end.
+pub fn send_holders(t: Table, cap: CapId) -> HoldersAnswer
+    requires { ⌜ Sound t ⌝ }
+    ensures { λ r. ⌜ r ≡ holdersOf t cap ⌝ }
+{
+    let i = cap.index() as usize;
+    let ep = t.endpoints[i % MAX_ENDPOINTS];
+    let Opening::Opens(k) = open(i < t.sizes.endpoints, ep, cap, CapRights::SEND) else {
+        return HoldersAnswer::BadCap;
+    };
+    let b = t.mailboxes[k];
+    HoldersAnswer::Holders(b.send_holders)
+}

@@ -1,0 +1,185 @@
+-- How a choice by an opening is settled, and what an opening says of the endpoint and the mailbox. Assumes nothing.
+use mathlib.Core.Path.{_≡_, refl, sym, ap, _∙_}
+use mathlib.Core.Bool.{Bool, true, false}
+use mathlib.Core.List.{List}
+use mathlib.Core.Logic.{_⊎_, inl, inr, ⊎-elim}
+use Prim.Native.Nat.{ℕ, _<_, _≤_, _%_}
+use native.Mathlib.Omega.{arith}
+use native.Mathlib.Nat.{mod-eq-of-lt}
+use borrow.Author.Tests.{ltb-true, ltb-false, eqb-true}
+use lib.Dec.{ltb, eqb}
+use lib.Seq.{getD-set-same}
+use Rattle.laws.specs.Pick.{pick}
+use Rattle.laws.proofs.Cases.{yes, no, all-pick, not-both}
+use Rattle.cap.specs.Id.{indexOf, generationOf}
+use Rattle.cap.specs.Rights.{containsAll, sendRight, receiveRight}
+use Rattle.cap.specs.declared.CapId.{CapId}
+use Rattle.cap.specs.declared.CapRights.{CapRights}
+use Rattle.cap.specs.declared.slot.Slot.{Slot}
+use Rattle.ring.specs.Ring.{IsRing}
+use Rattle.ipc_rules.specs.State.{freshMailbox, withMailbox, endIn, endpointAt, endpointLive, mailboxAt, mailboxLive}
+use Rattle.ipc_rules.specs.Sound.{Sound, InRange}
+use Rattle.ipc_rules.specs.Opening.{openOf, openEither, openAny, openingOf, eitherOf, anyRightOf, holdOf, opened}
+use Rattle.ipc_rules.specs.declared.state.Endpoint.{Endpoint}
+use Rattle.ipc_rules.specs.declared.state.Mailbox.{Mailbox}
+use Rattle.ipc_rules.specs.declared.state.Sizes.{Sizes}
+use Rattle.ipc_rules.specs.declared.state.Table.{Table}
+use Rattle.ipc_rules.specs.declared.opening.Opening.{Opening}
+use Rattle.ipc_rules.specs.declared.opening.Opening.the-variants.{Opens, Shut}
+
+-- q is what the code got, and p what the definition asks
+module _ {A : Type 0} {r : A} where
+  pub shut : {q p : Opening} {a : A} (f : ℕ → A) → q ≡ p → q ≡ Shut → r ≡ a → r ≡ opened p a f
+  unfolding opened
+  shut f e n h = rw (← e, n) h
+
+  pub opens : {q p : Opening} (a : A) (f : ℕ → A) (k : ℕ) → q ≡ p → q ≡ Opens k → r ≡ f k → r ≡ opened p a f
+  unfolding opened
+  opens a f k e n h = rw (← e, n) h
+
+pub ruleset openings = (shut, opens)
+
+-- what holds of each way of an opening holds of the choice by it
+pub all-opened : {A : Type 0} (P : A → Type 0) (o : Opening) (a : A) (f : ℕ → A) → (o ≡ Shut → P a) → ((k : ℕ) → o ≡ Opens k → P (f k)) → P (opened o a f)
+unfolding opened
+all-opened P Shut a f n y = n refl
+all-opened P (Opens k) a f n y = y k refl
+
+-- the code looks at the endpoint at the index modulo 64; past the table it looks at none, so that which one it is makes no difference
+module _ (f : Bool → Endpoint → Opening) (past : (x y : Endpoint) → f false x ≡ f false y) (es : List Endpoint) (e : ℕ) (few : e ≤ 64) where
+  masked : (i : ℕ) (b : Bool) → ltb i e ≡ b → f b (endIn es (i % 64)) ≡ f b (endIn es i)
+  masked i true p = let l : i < e = ltb-true i e p in let q : i % 64 ≡ i = omega arith in rw q
+  masked i false p = past (endIn es (i % 64)) (endIn es i)
+
+  looked : (i j : ℕ) (q : Opening) → i ≡ j → q ≡ f (ltb i e) (endIn es (i % 64)) → q ≡ f (ltb j e) (endIn es j)
+  looked i j q h g = g ∙ masked i _ refl ∙ ap (λ (n : ℕ). f (ltb n e) (endIn es n)) h
+
+-- what the code opens is what the rule asks
+module _ (t : Table) (i : ℕ) (q : Opening) (s : Sound t) where
+  pub open-gave : (c : CapId) (need : CapRights) → i ≡ indexOf c → q ≡ openOf (ltb i (t .sizes .endpoints)) (endIn (t .endpoints) (i % 64)) c need → q ≡ openingOf t c need
+  unfolding openingOf openOf pick
+  open-gave c need h g = looked (λ b e. openOf b e c need) (λ _ _. refl) (t .endpoints) (t .sizes .endpoints) (s .sizes .endpoints) i _ q h g
+
+  pub either-gave : (c : CapId) → i ≡ indexOf c → q ≡ openEither (ltb i (t .sizes .endpoints)) (endIn (t .endpoints) (i % 64)) c → q ≡ eitherOf t c
+  unfolding eitherOf openEither openOf opened pick
+  either-gave c h g = looked (λ b e. openEither b e c) (λ _ _. refl) (t .endpoints) (t .sizes .endpoints) (s .sizes .endpoints) i _ q h g
+
+  pub any-gave : (c : CapId) → i ≡ indexOf c → q ≡ openAny (ltb i (t .sizes .endpoints)) (endIn (t .endpoints) (i % 64)) c → q ≡ anyRightOf t c
+  unfolding anyRightOf openAny pick
+  any-gave c h g = looked (λ b e. openAny b e c) (λ _ _. refl) (t .endpoints) (t .sizes .endpoints) (s .sizes .endpoints) i _ q h g
+
+  pub hold-gave : (x : Slot) → x .present ≡ true → i ≡ indexOf (x .id) → q ≡ openOf (ltb i (t .sizes .endpoints)) (endIn (t .endpoints) (i % 64)) (x .id) sendRight → q ≡ holdOf t x
+  unfolding holdOf
+  hold-gave x p h g = yes _ p (open-gave (x .id) sendRight h g)
+
+-- a vacant slot holds no send end
+pub hold-vacant : (t : Table) (x : Slot) → x .present ≡ false → Shut ≡ holdOf t x
+unfolding holdOf
+hold-vacant t x p = no _ p refl
+
+-- what opens: the tests that it passed, and the mailbox that it names
+pub record Opened (t : Table) (c : CapId) (need : CapRights) (k : ℕ) : Type 0 where
+  pub below : indexOf c < t .sizes .endpoints
+  pub live : endpointLive t (indexOf c) ≡ true
+  pub generation : endpointAt t (indexOf c) .generation ≡ generationOf c
+  pub right : containsAll (endpointAt t (indexOf c) .rights) need ≡ true
+  pub names : endpointAt t (indexOf c) .mailbox ≡ k
+
+tests : (b l g r : Bool) (m k : ℕ) → pick b (pick l (pick g (pick r (Opens m) Shut) Shut) Shut) Shut ≡ Opens k →
+    ((b ≡ true) × (l ≡ true)) × ((g ≡ true) × (r ≡ true)) × (m ≡ k)
+unfolding pick
+tests true true true true m k e = ((refl, refl), (refl, refl), (cc))
+tests true true true false m k e = let z : _≡_ {A = ℕ} 0 1 = cc in absurd (omega arith)
+tests true true false r m k e = let z : _≡_ {A = ℕ} 0 1 = cc in absurd (omega arith)
+tests true false g r m k e = let z : _≡_ {A = ℕ} 0 1 = cc in absurd (omega arith)
+tests false l g r m k e = let z : _≡_ {A = ℕ} 0 1 = cc in absurd (omega arith)
+
+pub opened-of : (t : Table) (c : CapId) (need : CapRights) (k : ℕ) → openingOf t c need ≡ Opens k → Opened t c need k
+unfolding openingOf openOf
+opened-of t c need k e =
+    let p = tests (ltb (indexOf c) (t .sizes .endpoints)) (endpointLive t (indexOf c)) (eqb (endpointAt t (indexOf c) .generation) (generationOf c)) (containsAll (endpointAt t (indexOf c) .rights) need) _ k e in
+    record { below = ltb-true _ _ (p .0 .0); live = p .0 .1; generation = eqb-true _ _ (p .1 .0); right = p .1 .1; names = p .2 }
+
+-- a live mailbox of a sound table is within the sizes
+pub live-below : (t : Table) (k : ℕ) → Sound t → mailboxLive t k ≡ true → k < t .sizes .mailboxes
+live-below t k s l = by (ltb k (t .sizes .mailboxes)) refl
+  where
+    by : (b : Bool) → ltb k (t .sizes .mailboxes) ≡ b → k < t .sizes .mailboxes
+    by true p = ltb-true _ _ p
+    by false p = absurd (not-both (mailboxLive t k) l (ap (λ (b : Mailbox). b .live) (s .mailboxes-past k (ltb-false _ _ p))))
+
+-- a live mailbox that is replaced stands where it stood
+pub box-same : (t : Table) (k : ℕ) (b : Mailbox) → Sound t → mailboxLive t k ≡ true → mailboxAt (withMailbox t k b) k ≡ b
+box-same t k b s l =
+    let h = live-below t k s l in
+    let z = s .sizes in
+    let n = s .shape .mailboxes in
+    getD-set-same (t .mailboxes) k b freshMailbox (omega arith)
+
+-- mailbox k is a live one, and what a call on it relies on
+pub record Within (t : Table) (k : ℕ) : Type 0 where
+  pub box : k < 32
+  pub live : mailboxLive t k ≡ true
+  pub sizes : InRange (t .sizes)
+  pub ring : IsRing (t .sizes .depth) (mailboxAt t k .ring)
+
+pub live-within : (t : Table) (k : ℕ) → Sound t → mailboxLive t k ≡ true → Within t k
+live-within t k s l =
+    let b = live-below t k s l in
+    let z = s .sizes in
+    record { box = omega arith; live = l; sizes = z; ring = s .ring k l }
+
+-- what opens in a sound table is a live mailbox
+pub opens-live : (t : Table) (c : CapId) (need : CapRights) (k : ℕ) → Sound t → openingOf t c need ≡ Opens k → mailboxLive t k ≡ true
+opens-live t c need k s e =
+    let o = opened-of t c need k e in rw (← o .names) (s .names (indexOf c) (o .live) .live)
+
+pub opens-within : (t : Table) (c : CapId) (need : CapRights) (k : ℕ) → Sound t → openingOf t c need ≡ Opens k → Within t k
+opens-within t c need k s e = live-within t k s (opens-live t c need k s e)
+
+-- ---- the other openings
+-- either right: it opens by the one or by the other
+pub either-cases : (t : Table) (c : CapId) (k : ℕ) → eitherOf t c ≡ Opens k → (openingOf t c sendRight ≡ Opens k) ⊎ (openingOf t c receiveRight ≡ Opens k)
+unfolding eitherOf openEither openingOf opened
+either-cases t c k = by (openingOf t c sendRight)
+  where
+    by : (o : Opening) → opened o (openingOf t c receiveRight) Opens ≡ Opens k → (o ≡ Opens k) ⊎ (openingOf t c receiveRight ≡ Opens k)
+    by Shut e = inr e
+    by (Opens j) e = inl e
+
+pub either-within : (t : Table) (c : CapId) (k : ℕ) → Sound t → eitherOf t c ≡ Opens k → Within t k
+either-within t c k s e = ⊎-elim (opens-within t c sendRight k s) (opens-within t c receiveRight k s) (either-cases t c k e)
+
+-- a hold is of a present id that opens for send
+pub hold-opens : (t : Table) (x : Slot) (k : ℕ) → holdOf t x ≡ Opens k → (x .present ≡ true) × (openingOf t (x .id) sendRight ≡ Opens k)
+unfolding holdOf
+hold-opens t x k =
+    all-pick (λ o. o ≡ Opens k → (x .present ≡ true) × (openingOf t (x .id) sendRight ≡ Opens k)) (x .present) _ _
+    (λ p e. (p, e)) (λ _ e. let z : _≡_ {A = ℕ} 0 1 = cc in absurd (omega arith))
+
+pub hold-within : (t : Table) (x : Slot) (k : ℕ) → Sound t → holdOf t x ≡ Opens k → Within t k
+hold-within t x k s e = opens-within t (x .id) sendRight k s (hold-opens t x k e .1)
+
+-- a revocation's endpoint is live, of the id's generation, and names the mailbox
+pub record AnyRight (t : Table) (c : CapId) (k : ℕ) : Type 0 where
+  pub below : indexOf c < t .sizes .endpoints
+  pub live : endpointLive t (indexOf c) ≡ true
+  pub generation : endpointAt t (indexOf c) .generation ≡ generationOf c
+  pub names : endpointAt t (indexOf c) .mailbox ≡ k
+
+any-tests : (b l g : Bool) (m k : ℕ) → pick b (pick l (pick g (Opens m) Shut) Shut) Shut ≡ Opens k → ((b ≡ true) × (l ≡ true)) × (g ≡ true) × (m ≡ k)
+unfolding pick
+any-tests true true true m k e = ((refl, refl), refl, (cc))
+any-tests true true false m k e = let z : _≡_ {A = ℕ} 0 1 = cc in absurd (omega arith)
+any-tests true false g m k e = let z : _≡_ {A = ℕ} 0 1 = cc in absurd (omega arith)
+any-tests false l g m k e = let z : _≡_ {A = ℕ} 0 1 = cc in absurd (omega arith)
+
+pub any-right-of : (t : Table) (c : CapId) (k : ℕ) → anyRightOf t c ≡ Opens k → AnyRight t c k
+unfolding anyRightOf openAny
+any-right-of t c k e =
+    let p = any-tests (ltb (indexOf c) (t .sizes .endpoints)) (endpointLive t (indexOf c)) (eqb (endpointAt t (indexOf c) .generation) (generationOf c)) _ k e in
+    record { below = ltb-true _ _ (p .0 .0); live = p .0 .1; generation = eqb-true _ _ (p .1); names = p .2 }
+
+pub any-within : (t : Table) (c : CapId) (k : ℕ) → Sound t → anyRightOf t c ≡ Opens k → Within t k
+any-within t c k s e =
+    let o = any-right-of t c k e in live-within t k s (rw (← o .names) (s .names (indexOf c) (o .live) .live))

@@ -1,0 +1,29 @@
+-- Document 01, "Every no, by number": the three refusal counts, each raised by its refusals alone, stopping at 4,294,967,295.
+use Prim.Native.Nat.{ℕ, _+_}
+use lib.Dec.{ltb}
+use Rattle.laws.specs.Pick.{pick}
+use Rattle.ipc_rules.specs.State.{countsOf, withRefusals, withAuthority, withFull, withState}
+use Rattle.ipc_rules.specs.declared.state.Table.{Table}
+use Rattle.ipc_rules.specs.declared.answers.Noting.{Noting}
+use Rattle.ipc_rules.specs.declared.answers.NoteAnswer.{NoteAnswer}
+use Rattle.ipc_rules.specs.declared.answers.NoteAnswer.the-variants.{Noted}
+
+-- one more, and no more than 4,294,967,295
+unfoldable pub raised : ℕ → ℕ
+raised n = pick (ltb n 4294967295) (n + 1) 4294967295
+
+abbrev pub authorityRaised : Table → Table
+authorityRaised t = withRefusals t (withAuthority (countsOf t) (raised (countsOf t .authority)))
+
+abbrev pub fullRaised : Table → Table
+fullRaised t = withRefusals t (withFull (countsOf t) (raised (countsOf t .full)))
+
+abbrev pub stateRaised : Table → Table
+stateRaised t = withRefusals t (withState (countsOf t) (raised (countsOf t .state)))
+
+-- the two note calls
+abbrev pub noteAuthorityOf : Table → Noting
+noteAuthorityOf t = record { answer = Noted; table = authorityRaised t }
+
+abbrev pub noteStateOf : Table → Noting
+noteStateOf t = record { answer = Noted; table = stateRaised t }

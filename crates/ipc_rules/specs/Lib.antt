@@ -1,0 +1,14 @@
+pub mod State
+pub mod Sound
+pub mod Opening
+pub mod Counts
+pub mod Make
+pub mod Create
+pub mod Send
+pub mod Receive
+pub mod Observe
+pub mod Holds
+pub mod Revoke
+pub mod Waiters
+pub mod Answers
+pub mod Views

@@ -1,0 +1,2 @@
+pub mod SoundTest
+pub mod Border
