@@ -60,11 +60,15 @@ fn figures(answer: BindAnswer) -> [u64; 4] {
     }
 }
 
+// Both are vacant, or both hold the same id.
 fn same_place(a: Slot, b: Slot) -> bool {
-    (a.present == b.present) & (a.id.raw == b.id.raw)
+    if !(a.present & b.present) {
+        return a.present == b.present;
+    }
+    a.id.raw == b.id.raw
 }
 
-// Whether two bindings are one, field by field.
+// Whether two bindings are one: answers, values and places.
 pub(crate) fn same(a: Binding, b: Binding) -> bool {
     let one = a.answer;
     let other = b.answer;

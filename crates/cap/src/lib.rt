@@ -15,7 +15,7 @@ pub use word::slot_at;
 pub use word::word_of;
 pub use word::words_read;
 
-// An opaque handle: a table index in the low 16 bits, the generation that it was made in above them.
+// An opaque id: a table index in the low 16 bits, the generation that it was made in above them.
 // Anyone can build any id; what makes one worthless is the table that does not open it.
 pub struct CapId {
     pub raw: u32,

@@ -112,7 +112,7 @@ module _ (s : Logged) (f : Follows s) (log : List ℕ) where
       let v = operate s (parking log) in
       let n = s .world .tenant (p .box) in
       let w : Waits (v .world) n (p .box) (taskAt log 7) = rw (parks s log) (p .waits) in
-      record { number = n; box = p .box; waits = w; fate = fate-in n (p .box) (taskAt log 7) v (operations-follow s (parking log) f) w }
+      record { number = n; box = p .box; opens = p .opens; is = refl; waits = w; fate = fate-in n (p .box) (taskAt log 7) v (operations-follow s (parking log) f) w }
 
 pub log-waits-named : LogWaitsNamed
 log-waits-named before log e = let s = operated beginning before in let f = logs-follow before in named-in-log s f log (parked-on s f log e)

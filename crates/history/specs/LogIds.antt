@@ -1,6 +1,7 @@
 -- Demand 3's first sentence in a log: "From its creation, an id of channel n opens channel n or nothing until 65,535 later creations have
 -- succeeded." The ids are those that the line of a create shows; channels are numbered from the log's start, or from the last `new` that
--- was accepted, and it is so up to the next. The line of an operation with such an id shows BadCap, or what that channel's mailbox answers.
+-- was accepted, and it is so up to the next. The line of an operation with such an id shows BadCap, or what that channel's mailbox answers; the lines
+-- of operations with lists show no answer to a single id, and what their calls do with it is `Reach`.
 use mathlib.Core.Path.{_≡_}
 use mathlib.Core.Bool.{true}
 use mathlib.Core.List.{List, [], _∷_}

@@ -8,8 +8,11 @@ use mathlib.Core.List.{List, [], _∷_, _++_}
 use mathlib.Core.Logic.{_⊎_}
 use Prim.Native.Nat.{ℕ}
 use Rattle.laws.specs.Refusals as no
+use Rattle.cap.specs.Rights.{receiveRight}
+use Rattle.ipc_rules.specs.Opening.{openingOf}
 use Rattle.ipc_rules.specs.declared.state.TaskId.{TaskId}
-use Rattle.operations.specs.Operands.{taskAt}
+use Rattle.ipc_rules.specs.declared.opening.Opening.the-variants.{Opens}
+use Rattle.operations.specs.Operands.{idAt, taskAt}
 use Rattle.history.specs.Waits.{Waits, Quiet, First}
 use Rattle.history.specs.Operations.{Operation, callsOf, Logged, operate, operated, beginning, lasting, callsOver}
 use Rattle.history.specs.Lines.{lineIn, NamesTask, ClearsTask}
@@ -39,10 +42,12 @@ pub data FateIn (v : Logged) (n k : ℕ) (x : TaskId) (later : List Operation) :
   waits : Quiet (v .world) n k x (callsOver v later) → Waits (operated v later .world) n k x → FateIn v n k x later
   ended : (f : FirstIn v n k x later) → EndedIn (operated v (f .before)) n k x (f .operation) → FateIn v n k x later
 
--- the task of a park waits on a channel, with the fate that the demand gives it
+-- the task of a park waits on the channel that the park's id opens, with the fate that the demand gives it
 pub record NamedInLog (s : Logged) (log : List ℕ) : Type 0 where
   pub number : ℕ
   pub box : ℕ
+  pub opens : openingOf (s .world .table) (idAt log 3) receiveRight ≡ Opens box
+  pub is : number ≡ s .world .tenant box
   pub waits : Waits (operate s (parking log) .world) number box (taskAt log 7)
   pub fate : (later : List Operation) → lasting later ≡ true → FateIn (operate s (parking log)) number box (taskAt log 7) later
 

@@ -1,5 +1,5 @@
--- A channel table's parts as when fresh, what stands at a place of it, and each record with one field anew. No other file writes one of
--- these records out, so that a field more is a change here.
+-- A channel table's parts as when fresh, what stands at a place of it, and each record with one field anew. No other file writes a
+-- message, an endpoint, a mailbox, the counters or a table out, so that a field more is a change here.
 use mathlib.Core.Path.{_≡_}
 use mathlib.Core.Bool.{Bool, true, false}
 use mathlib.Core.List.{List}

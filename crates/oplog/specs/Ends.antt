@@ -18,7 +18,7 @@ pub data PrintsInto (log : List ℕ) (supply : ℕ → List ℕ) : ℕ → Place
 abbrev pub Roomy : (ℕ → List ℕ) → Type 0
 Roomy supply = (i : ℕ) → 315 ≤ length (supply i)
 
--- into every such supply a replay comes to its end, from each place that it can come to, and what it then has printed is all that was left
+-- into every such supply a replay comes to its end, from each place that fits the log, and what it then has printed is all that was left
 abbrev pub PartsEnd : Type 0
 PartsEnd = (log : List ℕ) (supply : ℕ → List ℕ) → Roomy supply → (p : Place) → Placed log p → PrintsInto log supply 0 p (textAt log p)
 
