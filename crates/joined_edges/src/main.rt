@@ -228,7 +228,7 @@ fn giving(b: Both) -> Both {
 
 fn with_next(b: Both, next: u16) -> Both {
     let mut channels = b.channels;
-    channels.next_gen = next;
+    channels.counters.next_gen = next;
     let rows = b.rows;
     Both { channels, rows }
 }

@@ -13,14 +13,16 @@ fn counts(r: Refusals) {
 
 fn given(n: Noting) {
     let t = n.table;
-    let r = t.refusals;
+    let r = t.counters.refusals;
     counts(r);
 }
 
 fn table_with(r: Refusals) -> Table {
     let made = ipc::new(1, 2, 1);
     let mut t = made.table;
-    t.refusals = r;
+    let mut counters = t.counters;
+    counters.refusals = r;
+    t.counters = counters;
     t
 }
 

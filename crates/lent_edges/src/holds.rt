@@ -47,7 +47,7 @@ fn given(r: Registering) {
     let t = r.table;
     holds(t.mailboxes[0]);
     holds(t.mailboxes[1]);
-    shown::value(t.next_gen as u64);
+    shown::value(t.counters.next_gen as u64);
 }
 
 fn tried(edge: u64, t: Table, words: &[u64]) {
@@ -99,7 +99,7 @@ pub(crate) fn edges() {
     vacant_with_id(8, t);
     tried(9, with_holds(t, 4294967294), &[A, A]);
     let mut unsound = t;
-    unsound.next_gen = 0;
+    unsound.counters.next_gen = 0;
     tried(10, unsound, &[A, B]);
     tried(11, unsound, &[]);
 }

@@ -71,7 +71,8 @@ fn tested(n: u64) -> u64 {
         if ipc_sound::sound(t) {
             sum = std::num::wrapping_add_u64(sum, 1);
         }
-        t.counters.next_gen = (i % 65535) as u16;
+        let next = (i % 65535) as u16;
+        t.counters.next_gen = next;
         i += 1;
     }
     sum

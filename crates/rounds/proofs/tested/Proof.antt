@@ -25,8 +25,8 @@ sound-requires c κs = search needs
 wrapping-add-u64-requires : tie.Need-wrapping-add-u64-requires Inv-loop μ-loop
 wrapping-add-u64-requires c κs = search needs
 
-cast-t : tie.Need-cast-t Inv-loop μ-loop
-cast-t c = search needs
+cast-next : tie.Need-cast-next Inv-loop μ-loop
+cast-next c = search needs
 
 add-i : tie.Need-add-i Inv-loop μ-loop
 add-i c = search needs
@@ -51,7 +51,7 @@ tested-spec =
     loop-holds
     sound-requires
     wrapping-add-u64-requires
-    cast-t
+    cast-next
     add-i
     loop-less
     loop-again
