@@ -22,7 +22,7 @@ impl SlotAnswer {
         ensures { λ r. ⌜ r ≡ slotNumber self ⌝ }
     {
         match self {
-            SlotAnswer::Names(_) => refusals::ACCEPTED,
+            SlotAnswer::Names(_) => refusals::NONE,
             SlotAnswer::OutOfRange { slot: _, slots: _ } => refusals::OUT_OF_RANGE,
             SlotAnswer::Vacant { slot: _ } => refusals::VACANT,
         }

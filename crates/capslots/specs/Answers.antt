@@ -10,15 +10,15 @@ use Rattle.capslots.specs.declared.answers.TransferAnswer.{TransferAnswe
 use Rattle.capslots.specs.declared.answers.TransferAnswer.the-variants.{Transferred, BadFromSlot, ToSlotFull, ToSlotOob, Untransferable, BadRow}
 
 abbrev pub seedNumber : SeedAnswer → ℕ
-seedNumber Seeded = no.accepted
+seedNumber Seeded = no.none
 seedNumber BadWord = no.badWord
 
 abbrev pub installNumber : InstallAnswer → ℕ
-installNumber Installed = no.accepted
+installNumber Installed = no.none
 installNumber BadSlot = no.badSlot
 
 abbrev pub transferNumber : TransferAnswer → ℕ
-transferNumber Transferred = no.accepted
+transferNumber Transferred = no.none
 transferNumber BadFromSlot = no.badFromSlot
 transferNumber ToSlotFull = no.toSlotFull
 transferNumber ToSlotOob = no.toSlotOob

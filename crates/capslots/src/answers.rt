@@ -34,7 +34,7 @@ impl SeedAnswer {
         ensures { λ r. ⌜ r ≡ seedNumber self ⌝ }
     {
         match self {
-            SeedAnswer::Seeded => refusals::ACCEPTED,
+            SeedAnswer::Seeded => refusals::NONE,
             SeedAnswer::BadWord => refusals::BAD_WORD,
         }
     }
@@ -45,7 +45,7 @@ impl InstallAnswer {
         ensures { λ r. ⌜ r ≡ installNumber self ⌝ }
     {
         match self {
-            InstallAnswer::Installed => refusals::ACCEPTED,
+            InstallAnswer::Installed => refusals::NONE,
             InstallAnswer::BadSlot => refusals::BAD_SLOT,
         }
     }
@@ -56,7 +56,7 @@ impl TransferAnswer {
         ensures { λ r. ⌜ r ≡ transferNumber self ⌝ }
     {
         match self {
-            TransferAnswer::Transferred => refusals::ACCEPTED,
+            TransferAnswer::Transferred => refusals::NONE,
             TransferAnswer::BadFromSlot => refusals::BAD_FROM_SLOT,
             TransferAnswer::ToSlotFull => refusals::TO_SLOT_FULL,
             TransferAnswer::ToSlotOob => refusals::TO_SLOT_OOB,

@@ -132,7 +132,7 @@ module _ (w : World) (log : List ℕ) (t : Tables) (reached : Reached w) (same :
   by-new : (b : Bool) → inRange (sizesAt log) ≡ b → Follows (record {
     world = pick b (start (sizesAt log)) (run w []);
     tables = pick {A = Done} b
-        (record { number = no.accepted; values = []; tables = allFresh (byteAt log 3) (byteAt log 4) (byteAt log 5) })
+        (record { number = no.none; values = []; tables = allFresh (byteAt log 3) (byteAt log 4) (byteAt log 5) })
         (record { number = no.badSizes; values = []; tables = t }) .tables;
   })
   unfolding pick run

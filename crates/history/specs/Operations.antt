@@ -9,7 +9,8 @@ use lib.Dec.{eqb}
 use lib.ListN.{getD}
 use Rattle.laws.specs.Pick.{pick}
 use Rattle.capslots.specs.Table.{Shape}
-use Rattle.ipc_rules.specs.Make.{inRange, sizesOf}
+use Rattle.ipc_rules.specs.State.{sizesOf}
+use Rattle.ipc_rules.specs.Make.{inRange}
 use Rattle.ipc_rules.specs.declared.state.Sizes.{Sizes}
 use Rattle.logread.specs.Little.{byteAt}
 use Rattle.logread.specs.Lists.{listSlots, listWords}

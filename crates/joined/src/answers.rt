@@ -57,7 +57,7 @@ impl SpawnAnswer {
         ensures { λ r. ⌜ r ≡ spawnNumber self ⌝ }
     {
         match self {
-            SpawnAnswer::Spawned => refusals::ACCEPTED,
+            SpawnAnswer::Spawned => refusals::NONE,
             SpawnAnswer::BadWord => refusals::BAD_WORD,
             SpawnAnswer::BadRow => refusals::BAD_ROW,
             SpawnAnswer::BadTable => refusals::BAD_TABLE,
@@ -70,7 +70,7 @@ impl LeaveAnswer {
         ensures { λ r. ⌜ r ≡ leaveNumber self ⌝ }
     {
         match self {
-            LeaveAnswer::Left => refusals::ACCEPTED,
+            LeaveAnswer::Left => refusals::NONE,
             LeaveAnswer::BadRow => refusals::BAD_ROW,
             LeaveAnswer::BadTable => refusals::BAD_TABLE,
         }
@@ -82,7 +82,7 @@ impl GiveAnswer {
         ensures { λ r. ⌜ r ≡ giveNumber self ⌝ }
     {
         match self {
-            GiveAnswer::Given => refusals::ACCEPTED,
+            GiveAnswer::Given => refusals::NONE,
             GiveAnswer::BadSlot => refusals::BAD_SLOT,
             GiveAnswer::BadTable => refusals::BAD_TABLE,
         }

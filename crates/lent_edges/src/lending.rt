@@ -3,7 +3,7 @@ ghost use mathlib.Core.Path.{_≡_};
 ghost use Prim.Native.Nat.{_≤_};
 ghost use lib.ListN.{take};
 ghost use Rattle.manifest.specs.Bind.{bindSlots};
-ghost use Rattle.lent.specs.Counts.{authorityNoted, stateNoted};
+ghost use Rattle.ipc_rules.specs.Counts.{authorityNoted, stateNoted};
 ghost use Rattle.lent.specs.Holds.{registerSlots};
 use cap::Slot;
 use ipc_rules::answers::Registering;

@@ -26,7 +26,7 @@ impl Written {
         ensures { λ r. ⌜ r ≡ writtenNumber self ⌝ }
     {
         match self {
-            Written::Upto(_) => refusals::ACCEPTED,
+            Written::Upto(_) => refusals::NONE,
             Written::NoRoom => refusals::NO_ROOM,
         }
     }

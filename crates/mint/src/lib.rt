@@ -37,7 +37,7 @@ impl MintAnswer {
         ensures { λ r. ⌜ r ≡ mintNumber self ⌝ }
     {
         match self {
-            MintAnswer::Minted(_) => refusals::ACCEPTED,
+            MintAnswer::Minted(_) => refusals::NONE,
             MintAnswer::NoFreeEntry => refusals::NO_FREE_ENTRY,
         }
     }
@@ -48,7 +48,7 @@ impl LookupAnswer {
         ensures { λ r. ⌜ r ≡ lookupNumber self ⌝ }
     {
         match self {
-            LookupAnswer::Names(_) => refusals::ACCEPTED,
+            LookupAnswer::Names(_) => refusals::NONE,
             LookupAnswer::BadCap => refusals::BAD_CAP,
         }
     }

@@ -6,7 +6,7 @@ use native.Mathlib.Omega.{arith}
 use lib.Dec.{lit≤}
 use lib.ListN.{getD, length, length-append}
 use Rattle.laws.proofs.Cases.{all-pick}
-use Rattle.cap.specs.Slot.{slotValues, vacant}
+use Rattle.cap.specs.Slot.{slotValues, vacantSlot}
 use Rattle.cap.specs.declared.slot.Slot.{Slot}
 use Rattle.cap.specs.declared.slot.SlotAnswer as slot
 use Rattle.mint.specs.Answer.{mintValues, lookupValues}
@@ -52,7 +52,7 @@ waiters-few : (ws : List Waiter) → Few (fourWaiterValues ws)
 waiters-few ws = four-few waiterValues waiter-few (getD ws 0 nobody) (getD ws 1 nobody) (getD ws 2 nobody) (getD ws 3 nobody)
 
 pub slots-few : (ss : List Slot) → Few (fourShown ss)
-slots-few ss = four-few slotShown (λ s. let h = slot-few s in omega arith) (getD ss 0 vacant) (getD ss 1 vacant) (getD ss 2 vacant) (getD ss 3 vacant)
+slots-few ss = four-few slotShown (λ s. let h = slot-few s in omega arith) (getD ss 0 vacantSlot) (getD ss 1 vacantSlot) (getD ss 2 vacantSlot) (getD ss 3 vacantSlot)
 
 -- ---- by answer
 pub create-few : (a : create.CreateAnswer) → Few (createValues a)

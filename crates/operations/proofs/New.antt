@@ -8,7 +8,8 @@ use Rattle.laws.specs.Pick.{pick}
 use Rattle.laws.proofs.Cases.{all-pick}
 use Rattle.laws.specs.Refusals as no
 use Rattle.ipc_rules.specs.Answers.{newNumber}
-use Rattle.ipc_rules.specs.Make.{inRange, sizesOf, newOf}
+use Rattle.ipc_rules.specs.State.{sizesOf}
+use Rattle.ipc_rules.specs.Make.{inRange, newOf}
 use Rattle.ipc_rules.specs.declared.answers.New.{New}
 use Rattle.ipc_rules.specs.declared.answers.NewAnswer.{NewAnswer}
 use Rattle.ipc_rules.specs.declared.answers.NewAnswer.the-variants.{Made, BadSizes}
@@ -51,6 +52,6 @@ module _ (log : List ℕ) (t : Tables) {m e d : ℕ} (a : m ≡ byteAt log 3) (b
   new-refused h = let f = out-of-range m e d g h in rw (← a, ← b, ← c, f, q)
 
   pub new-made : n .answer ≡ Made
-      → _≡_ {A = Outcome} (record { number = no.accepted; values = v .at; count = v .count; tables = n .tables }) (packed (newDone log t))
+      → _≡_ {A = Outcome} (record { number = no.none; values = v .at; count = v .count; tables = n .tables }) (packed (newDone log t))
   unfolding newDone pick
   new-made h = let f = in-range m e d g h in rw (← a, ← b, ← c, f, q, made-fresh m e d g f)

@@ -11,7 +11,8 @@ use Rattle.taskcap.specs.Table as tasks
 use Rattle.ipc_rules.specs.Answers.{createNumber, createValues, sendNumber, sendValues, recvNumber, recvValues, parkNumber, parkValues, queuedNumber, queuedValues, holdersNumber, holdersValues, revokeNumber, revokeValues, clearNumber, clearValues, noteNumber, countsNumber, countsValues}
 use Rattle.ipc_rules.specs.Counts.{noteAuthorityOf, noteStateOf}
 use Rattle.ipc_rules.specs.Create.{createOf}
-use Rattle.ipc_rules.specs.Make.{inRange, sizesOf, freshOf}
+use Rattle.ipc_rules.specs.State.{sizesOf}
+use Rattle.ipc_rules.specs.Make.{inRange, freshOf}
 use Rattle.ipc_rules.specs.Observe.{queuedOf, holdersOf, refusalsOf}
 use Rattle.ipc_rules.specs.Receive.{recvOf, parkOf}
 use Rattle.ipc_rules.specs.Revoke.{revokeOf}
@@ -74,7 +75,7 @@ freshBy n = record { answer = n .answer; tables = record { channels = n .table; 
 unfoldable pub newDone : List ℕ → Tables → Done
 newDone log t =
     pick (inRange (sizesOf (byteAt log 3) (byteAt log 4) (byteAt log 5)))
-    (record { number = no.accepted; values = []; tables = allFresh (byteAt log 3) (byteAt log 4) (byteAt log 5) })
+    (record { number = no.none; values = []; tables = allFresh (byteAt log 3) (byteAt log 4) (byteAt log 5) })
     (record { number = no.badSizes; values = []; tables = t })
 
 -- 1, create (ephemeral where the flag is not 0)

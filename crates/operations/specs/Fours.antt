@@ -4,7 +4,7 @@ use Prim.Native.Nat.{ℕ}
 use lib.ListN.{getD}
 use Rattle.laws.specs.Pick.{pick}
 use Rattle.laws.specs.Refusals as no
-use Rattle.cap.specs.Slot.{vacant}
+use Rattle.cap.specs.Slot.{vacantSlot}
 use Rattle.cap.specs.declared.slot.Slot.{Slot}
 use Rattle.capslots.specs.Rows.{drainOf}
 use Rattle.capslots.specs.declared.Drained.{Drained}
@@ -28,7 +28,7 @@ slotShown s = pick (s .present) (1 ∷ s .id .raw ∷ []) (0 ∷ [])
 
 -- four times that
 abbrev pub fourShown : List Slot → List ℕ
-fourShown ss = slotShown (getD ss 0 vacant) ++ slotShown (getD ss 1 vacant) ++ slotShown (getD ss 2 vacant) ++ slotShown (getD ss 3 vacant)
+fourShown ss = slotShown (getD ss 0 vacantSlot) ++ slotShown (getD ss 1 vacantSlot) ++ slotShown (getD ss 2 vacantSlot) ++ slotShown (getD ss 3 vacantSlot)
 
 -- the values so far with a waiter's after them, and with a slot's
 unfoldable pub waiterPushed : Values → Waiter → Values
@@ -41,7 +41,7 @@ abbrev pub released : Tables → Releasing → Done
 released t r = record { number = releaseNumber (r .answer); values = releaseValues (r .answer) (r .waiters); tables = withChannels t (r .table) }
 
 abbrev pub drained : Tables → Drained → Done
-drained t r = record { number = no.accepted; values = fourShown (r .slots); tables = withRows t (r .table) }
+drained t r = record { number = no.none; values = fourShown (r .slots); tables = withRows t (r .table) }
 
 abbrev pub left : Tables → Leaving → Done
 left t r =

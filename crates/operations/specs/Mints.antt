@@ -26,7 +26,7 @@ named t a = record { number = lookupNumber a; values = lookupValues a; tables = 
 
 -- ending a task shows how many entries it ended
 abbrev pub ended : Tables → Revoked → Done
-ended t r = record { number = no.accepted; values = r .count ∷ []; tables = withTasks t (r .table) }
+ended t r = record { number = no.none; values = r .count ∷ []; tables = withTasks t (r .table) }
 
 -- ---- the operations
 -- 19, task mint (task)

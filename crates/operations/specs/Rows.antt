@@ -36,7 +36,7 @@ unfoldable pub flagValues : Bool → List ℕ
 flagValues b = pick b (1 ∷ []) (0 ∷ [])
 
 abbrev pub told : Tables → Bool → Done
-told t b = record { number = no.accepted; values = flagValues b; tables = t }
+told t b = record { number = no.none; values = flagValues b; tables = t }
 
 -- ---- the operations
 -- 13, get (row, slot)

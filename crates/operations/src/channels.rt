@@ -87,7 +87,7 @@ pub fn op_new(t: Tables, log: &[u8]) -> Outcome
     };
     let tables = made.tables;
     Outcome {
-        number: refusals::ACCEPTED,
+        number: refusals::NONE,
         values: at,
         count: v.count,
         tables,

@@ -123,7 +123,7 @@ pub fn op_counts(t: Tables) -> Outcome
     );
     let at = v.at;
     Outcome {
-        number: refusals::ACCEPTED,
+        number: refusals::NONE,
         values: at,
         count: v.count,
         tables: t,

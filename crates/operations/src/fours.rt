@@ -108,7 +108,7 @@ pub fn op_drain(mut t: Tables, log: &[u8]) -> Outcome
     let rows = drained.table;
     t.rows = rows;
     Outcome {
-        number: refusals::ACCEPTED,
+        number: refusals::NONE,
         values: at,
         count: v.count,
         tables: t,

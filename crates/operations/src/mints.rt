@@ -80,7 +80,7 @@ pub fn op_task_end(mut t: Tables, log: &[u8]) -> Outcome
     let tasks = ended.table;
     t.tasks = tasks;
     Outcome {
-        number: refusals::ACCEPTED,
+        number: refusals::NONE,
         values: at,
         count: v.count,
         tables: t,

@@ -63,7 +63,7 @@ pub fn op_holds(t: Tables, log: &[u8]) -> Outcome
     let v = flag_values(yes);
     let at = v.at;
     Outcome {
-        number: refusals::ACCEPTED,
+        number: refusals::NONE,
         values: at,
         count: v.count,
         tables: t,

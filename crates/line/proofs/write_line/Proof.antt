@@ -3,30 +3,16 @@ use mathlib.Core.Path.{sym}
 use native.Mathlib.Omega.{arith}
 use lib.ListN.{take}
 use lib.Seq.{length-take-le}
+use Rattle.laws.proofs.Together.{_·_, _·²_, _·³_}
 use Rattle.line.proofs.Room.{from-buffer}
 use borrow.Author.Needs.{needs}
 use Rattle.line.proofs.write_line.Statement.{statement}
 use Rattle.line.proofs.write_line.Tie as tie
 
-slice-aggregate-line : tie.Need-slice-aggregate-line
-slice-aggregate-line c = search needs
-
-line-requires : tie.Need-line-requires
-line-requires c κs = search needs
-
-array-share-prefix-b : tie.Need-array-share-prefix-b
-array-share-prefix-b c = search needs
-
 slice-aggregate-put : tie.Need-slice-aggregate-put
 slice-aggregate-put c =
     let t = c .before .before .before .line in
     sym (length-take-le (t .result) (t .last .0) (omega (arith, t .kept .0, t .ensures .0)))
-
-put-requires : tie.Need-put-requires
-put-requires c κs = search needs
-
-same-length : tie.Need-same-length
-same-length c = search needs
 
 returns : tie.Need-returns
 returns c =
@@ -37,12 +23,4 @@ returns c =
 
 pub write-line-spec : {M : Type 1} → statement M
 write-line-spec =
-    tie.close
-    (tie.spec
-    slice-aggregate-line
-    line-requires
-    array-share-prefix-b
-    slice-aggregate-put
-    put-requires
-    same-length
-    returns)
+    tie.close (tie.spec ·³ (search needs) · slice-aggregate-put ·² (search needs) · returns)

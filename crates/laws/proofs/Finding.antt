@@ -1,18 +1,18 @@
 -- A place that a search found, as a number of the machine: it is below the search's end, so it fits where the end does. Assumes nothing.
 use mathlib.Core.Path.{_≡_, sym, _∙_}
 use mathlib.Core.Bool.{Bool}
-use Prim.Native.Nat.{ℕ, _+_, _*_, _^_, _≤_, _<_}
+use Prim.Native.Nat.{ℕ, _+_, _*_, _^_, _<_}
 use native.Mathlib.Omega.{arith}
 use lib.Dec.{T, leb, lit<}
 use mir.Syntax.{Width, w64}
 use mir.Val.{Fits, bits}
 use borrow.Author.Needs.{scaled-fits, fits-under}
-use Rattle.laws.specs.Place.{lowestFree}
-use Rattle.laws.specs.declared.Place.{Place}
-use Rattle.laws.specs.declared.Place.the-variants.{At}
+use Rattle.laws.specs.Search.{lowestFree}
+use Rattle.laws.specs.declared.Found.{Found}
+use Rattle.laws.specs.declared.Found.the-variants.{At}
 use Rattle.laws.proofs.Search.{lowest-at}
 
-module _ (used : ℕ → Bool) (from end k : ℕ) {q : Place} (is : q ≡ lowestFree used from end) (at : q ≡ At k) where
+module _ (used : ℕ → Bool) (from end k : ℕ) {q : Found} (is : q ≡ lowestFree used from end) (at : q ≡ At k) where
   pub found-below : k < end
   found-below = lowest-at used from end k (sym is ∙ at) .below
 
