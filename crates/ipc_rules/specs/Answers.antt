@@ -39,8 +39,7 @@ newNumber new.the-variants.Made = no.none
 newNumber new.the-variants.BadSizes = no.badSizes
 
 abbrev pub newValues : new.NewAnswer → List ℕ
-newValues new.the-variants.Made = []
-newValues new.the-variants.BadSizes = []
+newValues a = []
 
 abbrev pub createNumber : create.CreateAnswer → ℕ
 createNumber (create.the-variants.Created c) = no.none
@@ -121,9 +120,7 @@ registerNumber register.the-variants.BadWord = no.badWord
 registerNumber register.the-variants.BadTable = no.badTable
 
 abbrev pub registerValues : register.RegisterAnswer → List ℕ
-registerValues register.the-variants.Registered = []
-registerValues register.the-variants.BadWord = []
-registerValues register.the-variants.BadTable = []
+registerValues a = []
 
 abbrev pub releaseNumber : release.ReleaseAnswer → ℕ
 releaseNumber release.the-variants.Released = no.none
@@ -157,8 +154,7 @@ noteNumber note.the-variants.Noted = no.none
 noteNumber note.the-variants.BadTable = no.badTable
 
 abbrev pub noteValues : note.NoteAnswer → List ℕ
-noteValues note.the-variants.Noted = []
-noteValues note.the-variants.BadTable = []
+noteValues a = []
 
 abbrev pub countsNumber : counts.RefusalsAnswer → ℕ
 countsNumber (counts.the-variants.Counts r) = no.none

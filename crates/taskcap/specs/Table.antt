@@ -1,4 +1,5 @@
 -- Document 01, "Ids and the two mint tables": the task table, 32 entries from base 16,384, freed by the end of a task.
+use mathlib.Core.List.{List, [], _∷_}
 use Prim.Native.Nat.{ℕ}
 use lib.ListN.{replicate}
 use Rattle.laws.specs.declared.Found.{Found}
@@ -29,3 +30,7 @@ lookupOf t c = lookupIn 32 16384 (t .entries) c
 -- the end of a task kills its live entries and counts them
 unfoldable pub revokeOf : Table → ℕ → Revoked
 revokeOf t task = record { count = entriesOf 32 (t .entries) task; table = record { entries = endedIn (t .entries) task } }
+
+-- nothing refuses it, and it shows that count
+abbrev pub revokeValues : ℕ → List ℕ
+revokeValues n = n ∷ []

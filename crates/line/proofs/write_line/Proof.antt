@@ -3,7 +3,7 @@ use mathlib.Core.Path.{sym}
 use native.Mathlib.Omega.{arith}
 use lib.ListN.{take}
 use lib.Seq.{length-take-le}
-use Rattle.laws.proofs.Together.{_·_, _·²_, _·³_}
+use Rattle.laws.proofs.Together.{_·_, _·²_, _·⁴_}
 use Rattle.line.proofs.Room.{from-buffer}
 use borrow.Author.Needs.{needs}
 use Rattle.line.proofs.write_line.Statement.{statement}
@@ -16,11 +16,11 @@ slice-aggregate-put c =
 
 returns : tie.Need-returns
 returns c =
-    let a = c .before .before .before .before .before .before .before .before .before .args in
+    let a = c .before .before .before .before .before .before .before .before .before .before .before .args in
     let t = c .before .before .before .before .before .before .line in
     let p = c .before .before .put in
     from-buffer (a .free .now) (p .last .0) 0 _ (take (t .result) (t .last .0)) (p .result) (t .ensures .1) (p .ensures .0) (p .ensures .1)
 
 pub write-line-spec : {M : Type 1} → statement M
 write-line-spec =
-    tie.close (tie.spec ·³ (search needs) · slice-aggregate-put ·² (search needs) · returns)
+    tie.close (tie.spec ·⁴ (search needs) · slice-aggregate-put ·² (search needs) · returns)
