@@ -1,5 +1,5 @@
 -- An id is made of its index and its generation, and of nothing else. Assumes nothing.
-use mathlib.Core.Path.{_≡_, refl, ap}
+use mathlib.Core.Path.{_≡_, ap}
 use Prim.Native.Nat.{ℕ, _+_, _*_, _/_, _%_, _<_}
 use native.Mathlib.Omega.{arith}
 use Rattle.cap.specs.Id.{idOf, indexOf, generationOf}

@@ -1,3 +1,4 @@
 pub mod Ids
 pub mod Rights
 pub mod Words
+pub mod Few

@@ -1,9 +1,7 @@
 -- `containsAll` says of each bit that it is there: the flags of one are all among the other's. Assumes nothing.
-use mathlib.Core.Path.{_≡_, refl, sym, ap, _∙_}
-use mathlib.Core.Bool.{Bool, true, false}
-use Prim.Native.Nat.{ℕ}
-use Rattle.cap.specs.Rights.{containsAll, sendRight, receiveRight, irqRight, noRights, unionOf}
-use Rattle.cap.specs.declared.CapRights.{CapRights}
+use mathlib.Core.Path.{_≡_, refl}
+use mathlib.Core.Bool.{true, false}
+use Rattle.cap.specs.Rights.{containsAll, sendRight, receiveRight, unionOf}
 
 -- a single right holds itself and no other, and both together hold each
 pub send-holds-send : containsAll sendRight sendRight ≡ true

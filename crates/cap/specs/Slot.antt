@@ -12,24 +12,24 @@ use Rattle.cap.specs.declared.slot.Slot.{Slot}
 use Rattle.cap.specs.declared.slot.SlotAnswer.{SlotAnswer}
 use Rattle.cap.specs.declared.slot.SlotAnswer.the-variants.{Names, OutOfRange, Vacant}
 
-abbrev pub vacant : Slot
-vacant = record { present = false; id = record { raw = 0 } }
+abbrev pub vacantSlot : Slot
+vacantSlot = record { present = false; id = record { raw = 0 } }
 
 abbrev pub holding : CapId → Slot
 holding c = record { present = true; id = c }
 
 abbrev pub fourVacant : List Slot
-fourVacant = vacant ∷ vacant ∷ vacant ∷ vacant ∷ []
+fourVacant = vacantSlot ∷ vacantSlot ∷ vacantSlot ∷ vacantSlot ∷ []
 
 -- a slot past the row is out of range of its 4, one that holds nothing is vacant
 unfoldable pub fromSlot : List Slot → ℕ → SlotAnswer
 fromSlot row s =
     pick (ltb s 4)
-    (pick (getD row s vacant .present) (Names (getD row s vacant .id)) (Vacant s))
+    (pick (getD row s vacantSlot .present) (Names (getD row s vacantSlot .id)) (Vacant s))
     (OutOfRange s 4)
 
 abbrev pub slotNumber : SlotAnswer → ℕ
-slotNumber (Names c) = no.accepted
+slotNumber (Names c) = no.none
 slotNumber (OutOfRange s n) = no.outOfRange
 slotNumber (Vacant s) = no.vacant
 

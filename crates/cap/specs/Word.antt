@@ -7,7 +7,7 @@ use lib.Dec.{eqb}
 use Rattle.laws.specs.Pick.{pick}
 use Rattle.laws.specs.Every.{every}
 use Rattle.laws.specs.Refusals as no
-use Rattle.cap.specs.Slot.{vacant, holding}
+use Rattle.cap.specs.Slot.{vacantSlot, holding}
 use Rattle.cap.specs.declared.slot.Slot.{Slot}
 use Rattle.cap.specs.declared.word.WordAnswer.{WordAnswer}
 use Rattle.cap.specs.declared.word.WordAnswer.the-variants.{Reads, BadWord}
@@ -15,12 +15,12 @@ use Rattle.cap.specs.declared.word.WordAnswer.the-variants.{Reads, BadWo
 -- the slot that a word stands for
 unfoldable pub readWord : ℕ → WordAnswer
 readWord w =
-    pick (eqb w 0) (Reads vacant)
+    pick (eqb w 0) (Reads vacantSlot)
     (pick (eqb (w / 4294967296) 1) (Reads (holding (record { raw = w % 4294967296 })))
     BadWord)
 
 abbrev pub wordNumber : WordAnswer → ℕ
-wordNumber (Reads s) = no.accepted
+wordNumber (Reads s) = no.none
 wordNumber BadWord = no.badWord
 
 -- a word shows no values, whether it reads or not: the call that it is for does
@@ -43,7 +43,7 @@ wordsRead l = every (λ i. isWord (getD l i 0)) (length l)
 -- the slot that was read, vacant where the word did not read
 unfoldable pub orVacant : WordAnswer → Slot
 orVacant (Reads s) = s
-orVacant BadWord = vacant
+orVacant BadWord = vacantSlot
 
 -- what a list holds at i: vacant past its end
 abbrev pub slotAt : List ℕ → ℕ → Slot

@@ -1,8 +1,10 @@
 // A slot of a task's capability row, and the row read at an index.
 ghost use mathlib.Core.Path.{_≡_};
-ghost use Rattle.cap.specs.Slot.{fromSlot, slotNumber};
+ghost use Rattle.shown.specs.Shown.{shown};
+ghost use Rattle.cap.specs.Slot.{fromSlot, slotNumber, slotValues};
 use crate::CapId;
 use laws::refusals;
+use shown::Shown;
 
 // A place for an id. A vacant one is all zero, and its id is never read; raw 0 present is an id.
 pub struct Slot {
@@ -22,9 +24,22 @@ impl SlotAnswer {
         ensures { λ r. ⌜ r ≡ slotNumber self ⌝ }
     {
         match self {
-            SlotAnswer::Names(_) => refusals::ACCEPTED,
+            SlotAnswer::Names(_) => refusals::NONE,
             SlotAnswer::OutOfRange { slot: _, slots: _ } => refusals::OUT_OF_RANGE,
             SlotAnswer::Vacant { slot: _ } => refusals::VACANT,
+        }
+    }
+
+    // What a line shows of it.
+    pub fn shown(self) -> Shown
+        ensures { λ r. ⌜ r ≡ shown (slotNumber self) (slotValues self) ⌝ }
+    {
+        match self {
+            SlotAnswer::Names(c) => shown::one(refusals::NONE, c.raw as u64),
+            SlotAnswer::OutOfRange { slot, slots } => {
+                shown::two(refusals::OUT_OF_RANGE, slot as u64, slots as u64)
+            }
+            SlotAnswer::Vacant { slot } => shown::one(refusals::VACANT, slot as u64),
         }
     }
 }

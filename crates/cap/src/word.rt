@@ -17,7 +17,7 @@ impl WordAnswer {
         ensures { λ r. ⌜ r ≡ wordNumber self ⌝ }
     {
         match self {
-            WordAnswer::Reads(_) => refusals::ACCEPTED,
+            WordAnswer::Reads(_) => refusals::NONE,
             WordAnswer::BadWord => refusals::BAD_WORD,
         }
     }

@@ -7,7 +7,7 @@ use native.Mathlib.Omega.{arith}
 use borrow.Author.Tests.{lt-ltb, lt-leb, eq-eqb}
 use lib.ListN.{getD}
 use Rattle.laws.specs.Pick.{pick}
-use Rattle.cap.specs.Slot.{vacant, holding, fromSlot}
+use Rattle.cap.specs.Slot.{vacantSlot, holding, fromSlot}
 use Rattle.cap.specs.Word.{slotAt}
 use Rattle.cap.specs.declared.CapId.{CapId}
 use Rattle.cap.specs.declared.slot.SlotAnswer.the-variants.{Names}
@@ -57,7 +57,7 @@ module _ (t : Table) (r : ℕ) (words : List ℕ) where
         (λ _ l. shape-row t r (rowOf words) shape l refl)
 
 -- the slots that the list gives a row
-pub row-slots : (words : List ℕ) (s : ℕ) → s < 4 → getD (rowOf words .slots) s vacant ≡ slotAt words s
+pub row-slots : (words : List ℕ) (s : ℕ) → s < 4 → getD (rowOf words .slots) s vacantSlot ≡ slotAt words s
 row-slots words zero l = refl
 row-slots words (suc zero) l = refl
 row-slots words (suc (suc zero)) l = refl
@@ -126,7 +126,7 @@ module _ (t : Table) (r : ℕ) where
 
 -- u is t with the id of slot s of row r moved to slot s' of row r'
 pub record Moves (t u : Table) (r s r' s' : ℕ) : Type 0 where
-  pub source : slotIn u r s ≡ vacant
+  pub source : slotIn u r s ≡ vacantSlot
   pub destination : slotIn u r' s' ≡ holding (slotIn t r s .id)
   pub others : (q p : ℕ) → (q ≡ r → p ≡ s → ⊥) → (q ≡ r' → p ≡ s' → ⊥) → slotIn u q p ≡ slotIn t q p
 
@@ -139,7 +139,7 @@ module _ (t : Table) (r s r' s' : ℕ) where
   pub transfer-other-row : (q : ℕ) → (q ≡ r → ⊥) → (q ≡ r' → ⊥) → rowAt (transferOf t r s r' s' .table) q ≡ rowAt t q
   transfer-other-row q n m =
       transfer-ways (λ (x : Transferring). rowAt (x .table) q ≡ rowAt t q) t r s r' s' (λ _ _. refl) (λ _ _. refl)
-      (λ _ _. other-row-slot (withSlot t r s vacant) r' s' (holding (slotIn t r s .id)) q m ∙ other-row-slot t r s vacant q n)
+      (λ _ _. other-row-slot (withSlot t r s vacantSlot) r' s' (holding (slotIn t r s .id)) q m ∙ other-row-slot t r s vacantSlot q n)
 
   module _ (shape : Shape t) where
     apart : Reaches t r s r' s' → r ≡ r' → s ≡ s' → ⊥
@@ -147,11 +147,11 @@ module _ (t : Table) (r s r' s' : ℕ) where
 
     move : Reaches t r s r' s' → Moves t (moved t r s r' s') r s r' s'
     move way =
-        let kept = shape-slot t shape r s vacant (way .from-row) in
+        let kept = shape-slot t shape r s vacantSlot (way .from-row) in
         record {
-          source = other-slot _ kept r' s' _ (way .to-row) r s (apart way) ∙ new-slot t shape r s vacant (way .from-row) (way .from-slot);
+          source = other-slot _ kept r' s' _ (way .to-row) r s (apart way) ∙ new-slot t shape r s vacantSlot (way .from-row) (way .from-slot);
           destination = new-slot _ kept r' s' _ (way .to-row) (way .to-slot);
-          others = λ q p n m. other-slot _ kept r' s' _ (way .to-row) q p m ∙ other-slot t shape r s vacant (way .from-row) q p n;
+          others = λ q p n m. other-slot _ kept r' s' _ (way .to-row) q p m ∙ other-slot t shape r s vacantSlot (way .from-row) q p n;
         }
 
     -- a transfer to another place moves the id
@@ -163,7 +163,7 @@ module _ (t : Table) (r s r' s' : ℕ) where
     pub transfer-shape : Shape (transferOf t r s r' s' .table)
     transfer-shape =
         transfer-ways (λ (x : Transferring). Shape (x .table)) t r s r' s' (λ _ _. shape) (λ _ _. shape)
-        (λ way _. shape-slot _ (shape-slot t shape r s vacant (way .from-row)) r' s' _ (way .to-row))
+        (λ way _. shape-slot _ (shape-slot t shape r s vacantSlot (way .from-row)) r' s' _ (way .to-row))
 
 -- to its own place an id is always moved, and nothing changes
 pub transfer-same : (t : Table) (r s : ℕ) → s < 4 → transferOf t r s r s ≡ record { answer = Transferred; table = t }

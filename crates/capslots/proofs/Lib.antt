@@ -2,3 +2,4 @@ pub mod Reach
 pub mod Places
 pub mod Ways
 pub mod Calls
+pub mod Few

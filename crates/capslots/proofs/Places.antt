@@ -6,7 +6,7 @@ use native.Mathlib.Omega.{arith}
 use lib.ListN.{length, length-set, length-replicate, getD-replicate}
 use lib.Seq.{getD-set-same, getD-set-other}
 use Rattle.laws.proofs.Bools.{by-equal}
-use Rattle.cap.specs.Slot.{vacant}
+use Rattle.cap.specs.Slot.{vacantSlot}
 use Rattle.cap.specs.declared.slot.Slot.{Slot}
 use Rattle.capslots.specs.Table.{emptyRow, freshTable, rowAt, slotIn, withRow, withSlot, Shape}
 use Rattle.capslots.specs.declared.Row.{Row}
@@ -33,13 +33,13 @@ other-row-slot t r s x q n = other-row t r _ q n
 module _ (t : Table) (shape : Shape t) (r s : ℕ) (x : Slot) (row-inside : r < 54) where
   pub new-slot : s < 4 → slotIn (withSlot t r s x) r s ≡ x
   new-slot l =
-      rw (new-row t r _ shape row-inside) (getD-set-same (rowAt t r .slots) s x vacant (omega (arith, shape .slots r row-inside)))
+      rw (new-row t r _ shape row-inside) (getD-set-same (rowAt t r .slots) s x vacantSlot (omega (arith, shape .slots r row-inside)))
 
   -- every other place holds what it held
   pub other-slot : (q p : ℕ) → (q ≡ r → p ≡ s → ⊥) → slotIn (withSlot t r s x) q p ≡ slotIn t q p
   other-slot q p n =
       by-equal q r
-      (λ e. rw (e, new-row t r _ shape row-inside) (getD-set-other (rowAt t r .slots) s p x vacant (n e)))
+      (λ e. rw (e, new-row t r _ shape row-inside) (getD-set-other (rowAt t r .slots) s p x vacantSlot (n e)))
       (λ m. rw (other-row t r _ q m) refl)
 
   pub shape-slot : Shape (withSlot t r s x)
@@ -49,5 +49,5 @@ pub shape-fresh : Shape freshTable
 shape-fresh = record { rows = length-replicate 54 emptyRow; slots = λ r l. rw (getD-replicate 54 r emptyRow (record { slots = [] }) l) refl }
 
 -- a new table's slots are all vacant
-pub fresh-vacant : (r s : ℕ) → r < 54 → s < 4 → slotIn freshTable r s ≡ vacant
-fresh-vacant r s l m = rw (getD-replicate 54 r emptyRow (record { slots = [] }) l) (getD-replicate 4 s vacant vacant m)
+pub fresh-vacant : (r s : ℕ) → r < 54 → s < 4 → slotIn freshTable r s ≡ vacantSlot
+fresh-vacant r s l m = rw (getD-replicate 54 r emptyRow (record { slots = [] }) l) (getD-replicate 4 s vacantSlot vacantSlot m)

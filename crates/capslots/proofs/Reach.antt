@@ -1,6 +1,6 @@
 -- A transfer's way: where its bounds refuse it, and where it reaches its destination. Assumes nothing.
 use mathlib.Core.Path.{_≡_, ap}
-use mathlib.Core.Bool.{Bool, true, false, not, _&&_}
+use mathlib.Core.Bool.{Bool, true, false, _&&_}
 use Prim.Native.Nat.{ℕ, _<_}
 use native.Mathlib.Omega.{arith}
 use borrow.Author.Tests.{leb-false, lt-leb}

@@ -3,7 +3,7 @@ use mathlib.Core.Path.{_≡_}
 use mathlib.Core.List.{[]}
 use Prim.Native.Nat.{ℕ, _<_}
 use lib.ListN.{getD, set, replicate, length}
-use Rattle.cap.specs.Slot.{vacant, fourVacant}
+use Rattle.cap.specs.Slot.{vacantSlot, fourVacant}
 use Rattle.cap.specs.declared.slot.Slot.{Slot}
 use Rattle.capslots.specs.declared.Row.{Row}
 use Rattle.capslots.specs.declared.Table.{Table}
@@ -21,7 +21,7 @@ rowAt t r = getD (t .rows) r (record { slots = [] })
 
 -- what slot s of row r holds
 abbrev pub slotIn : Table → ℕ → ℕ → Slot
-slotIn t r s = getD (rowAt t r .slots) s vacant
+slotIn t r s = getD (rowAt t r .slots) s vacantSlot
 
 -- the table with another row r
 abbrev pub withRow : Table → ℕ → Row → Table

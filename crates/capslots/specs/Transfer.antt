@@ -4,7 +4,7 @@ use Prim.Native.Nat.{ℕ}
 use lib.Dec.{eqb, leb}
 use Rattle.laws.specs.Pick.{pick}
 use Rattle.cap.specs.Id.{classOf}
-use Rattle.cap.specs.Slot.{vacant, holding}
+use Rattle.cap.specs.Slot.{vacantSlot, holding}
 use Rattle.cap.specs.declared.CapClass.{CapClass}
 use Rattle.cap.specs.declared.CapClass.the-variants.{Endpoint, Task, Irq, Invalid}
 use Rattle.capslots.specs.Table.{slotIn, withSlot}
@@ -29,7 +29,7 @@ refusedBy a t = record { answer = a; table = t }
 
 -- the id of slot s of row r moved to slot s' of row r'
 abbrev pub moved : Table → ℕ → ℕ → ℕ → ℕ → Table
-moved t r s r' s' = withSlot (withSlot t r s vacant) r' s' (holding (slotIn t r s .id))
+moved t r s r' s' = withSlot (withSlot t r s vacantSlot) r' s' (holding (slotIn t r s .id))
 
 -- from-slot bound (11), to-slot bound (13), same row and slot is success even if empty or out of range as a row, source row (19),
 -- source empty (11), class not endpoint (14), destination row (19), destination full (12)

@@ -1,7 +1,13 @@
-// What the calls that change a row answer.
+// What the calls on rows answer, and what a line shows of it.
 ghost use mathlib.Core.Path.{_≡_};
-ghost use Rattle.capslots.specs.Answers.{seedNumber, installNumber, transferNumber};
+ghost use Rattle.laws.specs.Refusals.{none};
+ghost use Rattle.shown.specs.Shown.{shown, pushedAll};
+ghost use Rattle.capslots.specs.Answers.{seedNumber, seedValues, installNumber, installValues, transferNumber, transferValues, heldValues, drainValues, holdsValues};
+use crate::SLOTS;
+use cap::Slot;
 use laws::refusals;
+use shown::Shown;
+use shown::push;
 
 pub enum SeedAnswer {
     Seeded,
@@ -34,9 +40,15 @@ impl SeedAnswer {
         ensures { λ r. ⌜ r ≡ seedNumber self ⌝ }
     {
         match self {
-            SeedAnswer::Seeded => refusals::ACCEPTED,
+            SeedAnswer::Seeded => refusals::NONE,
             SeedAnswer::BadWord => refusals::BAD_WORD,
         }
+    }
+
+    pub fn shown(self) -> Shown
+        ensures { λ r. ⌜ r ≡ shown (seedNumber self) (seedValues self) ⌝ }
+    {
+        shown::none(self.number())
     }
 }
 
@@ -45,9 +57,15 @@ impl InstallAnswer {
         ensures { λ r. ⌜ r ≡ installNumber self ⌝ }
     {
         match self {
-            InstallAnswer::Installed => refusals::ACCEPTED,
+            InstallAnswer::Installed => refusals::NONE,
             InstallAnswer::BadSlot => refusals::BAD_SLOT,
         }
+    }
+
+    pub fn shown(self) -> Shown
+        ensures { λ r. ⌜ r ≡ shown (installNumber self) (installValues self) ⌝ }
+    {
+        shown::none(self.number())
     }
 }
 
@@ -56,7 +74,7 @@ impl TransferAnswer {
         ensures { λ r. ⌜ r ≡ transferNumber self ⌝ }
     {
         match self {
-            TransferAnswer::Transferred => refusals::ACCEPTED,
+            TransferAnswer::Transferred => refusals::NONE,
             TransferAnswer::BadFromSlot => refusals::BAD_FROM_SLOT,
             TransferAnswer::ToSlotFull => refusals::TO_SLOT_FULL,
             TransferAnswer::ToSlotOob => refusals::TO_SLOT_OOB,
@@ -64,4 +82,41 @@ impl TransferAnswer {
             TransferAnswer::BadRow => refusals::BAD_ROW,
         }
     }
+
+    pub fn shown(self) -> Shown
+        ensures { λ r. ⌜ r ≡ shown (transferNumber self) (transferValues self) ⌝ }
+    {
+        shown::none(self.number())
+    }
+}
+
+// `0`, or `1 id`, after what is shown already.
+fn push_slot(s: Shown, slot: Slot) -> Shown
+    ensures { λ r. ⌜ r ≡ pushedAll s (heldValues slot) ⌝ }
+{
+    if slot.present {
+        let one = push(s, 1);
+        return push(one, slot.id.raw as u64);
+    }
+    push(s, 0)
+}
+
+// What a drain shows of the slots that it took. Nothing refuses it.
+pub fn drain_shown(slots: [Slot; SLOTS]) -> Shown
+    ensures { λ r. ⌜ r ≡ shown none (drainValues slots) ⌝ }
+{
+    let a = push_slot(shown::none(refusals::NONE), slots[0]);
+    let b = push_slot(a, slots[1]);
+    let c = push_slot(b, slots[2]);
+    push_slot(c, slots[3])
+}
+
+// What the question whether a row holds an id shows. Nothing refuses it.
+pub fn holds_shown(yes: bool) -> Shown
+    ensures { λ r. ⌜ r ≡ shown none (holdsValues yes) ⌝ }
+{
+    if yes {
+        return shown::one(refusals::NONE, 1);
+    }
+    shown::one(refusals::NONE, 0)
 }

@@ -12,6 +12,8 @@ mod moves;
 pub use answers::InstallAnswer;
 pub use answers::SeedAnswer;
 pub use answers::TransferAnswer;
+pub use answers::drain_shown;
+pub use answers::holds_shown;
 pub use moves::Transferred;
 pub use moves::transfer;
 pub use moves::transfer_bounds;

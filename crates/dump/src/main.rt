@@ -30,7 +30,7 @@ fn head(sizes: Sizes, next: u16, counts: Refusals) -> bool {
 }
 
 fn mailbox(i: usize, b: Mailbox) -> bool {
-    field_of(b"mailbox", i, b" live", show::flag(b.live))
+    field_of(b"mailbox", i, b" live", show::flag(b.is_live()))
         & field_of(b"mailbox", i, b" ephemeral", show::flag(b.ephemeral))
         & field_of(b"mailbox", i, b" holds", b.send_holders as u64)
         & field_of(b"mailbox", i, b" head", b.ring.head as u64)
@@ -40,7 +40,7 @@ fn mailbox(i: usize, b: Mailbox) -> bool {
 }
 
 fn endpoint(i: usize, e: Endpoint) -> bool {
-    field_of(b"endpoint", i, b" live", show::flag(e.live))
+    field_of(b"endpoint", i, b" live", show::flag(e.is_live()))
         & field_of(b"endpoint", i, b" generation", e.generation as u64)
         & field_of(b"endpoint", i, b" rights", e.rights.bits as u64)
         & field_of(b"endpoint", i, b" mailbox", e.mailbox as u64)

@@ -7,7 +7,7 @@ use native.Mathlib.Omega.{arith}
 use borrow.Author.Tests.{eqb-true}
 use lib.Dec.{eqb}
 use Rattle.laws.specs.Pick as picks
-use Rattle.laws.specs.Place as places
+use Rattle.laws.specs.Search as places
 use Rattle.laws.specs.Every as indices
 use Rattle.laws.proofs.Every.{and-left, and-right}
 use Rattle.cap.specs.Id.{classOf}

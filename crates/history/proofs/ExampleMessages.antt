@@ -6,12 +6,11 @@ use mathlib.Core.List.{List, [], _∷_}
 use native.Mathlib.Omega.{arith}
 use lib.ListN.{getD, length}
 use Rattle.laws.specs.Pick.{pick}
-use Rattle.laws.specs.Place.{found, lowest, lowestFree}
+use Rattle.laws.specs.Search.{found, lowest, lowestFree}
 use Rattle.cap.specs.Id.{idOf}
 use Rattle.cap.specs.declared.CapId.{CapId}
 use Rattle.mint.specs.Generation.{nextGeneration}
-use Rattle.ipc_rules.specs.State.{freshMessage}
-use Rattle.ipc_rules.specs.Make.{sizesOf}
+use Rattle.ipc_rules.specs.State.{freshMessage, sizesOf}
 use Rattle.ipc_rules.specs.Create.{createOf}
 use Rattle.ipc_rules.specs.Send.{sendOf}
 use Rattle.ipc_rules.specs.Receive.{recvOf, parkOf}

@@ -5,18 +5,18 @@ use mathlib.Core.Bool.{Bool, true, false}
 use mathlib.Core.List.{List, [], _∷_}
 use Prim.Native.Nat.{ℕ, _+_}
 use Rattle.laws.specs.Pick.{pick}
-use Rattle.laws.specs.Place.{found, lowest, lowestFree}
+use Rattle.laws.specs.Search.{found, lowest, lowestFree}
 use Rattle.laws.specs.Every.{every, count}
-use Rattle.cap.specs.Slot.{vacant, holding}
+use Rattle.cap.specs.Slot.{vacantSlot, holding}
 use Rattle.cap.specs.Id.{idOf}
 use Rattle.cap.specs.Word.{orVacant, readWord, slotsOf}
 use Rattle.cap.specs.declared.CapId.{CapId}
 use Rattle.mint.specs.Generation.{nextGeneration}
 use Rattle.ipc_rules.specs.Counts.{raised}
-use Rattle.ipc_rules.specs.Make.{sizesOf}
 use Rattle.ipc_rules.specs.Create.{createOf}
 use Rattle.ipc_rules.specs.Send.{sendOf}
-use Rattle.ipc_rules.specs.Receive.{recvOf, parkOf, waiting}
+use Rattle.ipc_rules.specs.State.{waiting, sizesOf}
+use Rattle.ipc_rules.specs.Receive.{recvOf, parkOf}
 use Rattle.ipc_rules.specs.Holds.{fourOf, registered, registeredAll, registerOf, released, releasedAll, releaseOf}
 use Rattle.ipc_rules.specs.Revoke.{killed, wiped, revokeOf}
 use Rattle.ipc_rules.specs.Waiters.{withoutWaiter, clearOf}
@@ -114,24 +114,24 @@ record Computed : Type 0 where
   pub either-id-ends : ending (parked true once) (call.revoke receiver₁) ≡ true
   pub either-id-names : says (parked true once) (call.revoke receiver₁) ≡ call.revoked (Revoked (waiting task₁))
   -- a release of the last hold, of one hold in two, of two in two, and of the last hold where the channel is not ephemeral
-  pub release-ends : ending (parked true once) (releasing (vacant ∷ holding sender₁ ∷ [])) ≡ true
-  pub release-names : says (parked true once) (releasing (vacant ∷ holding sender₁ ∷ [])) ≡ naming (waiting task₁ ∷ [])
+  pub release-ends : ending (parked true once) (releasing (vacantSlot ∷ holding sender₁ ∷ [])) ≡ true
+  pub release-names : says (parked true once) (releasing (vacantSlot ∷ holding sender₁ ∷ [])) ≡ naming (waiting task₁ ∷ [])
   pub one-left-ends : ending (parked true twice) (releasing (holding sender₁ ∷ [])) ≡ false
   pub one-left-names : says (parked true twice) (releasing (holding sender₁ ∷ [])) ≡ naming []
-  pub none-left-ends : ending (parked true twice) (releasing (holding sender₁ ∷ vacant ∷ holding sender₁ ∷ [])) ≡ true
-  pub none-left-names : says (parked true twice) (releasing (holding sender₁ ∷ vacant ∷ holding sender₁ ∷ [])) ≡ naming (waiting task₁ ∷ [])
+  pub none-left-ends : ending (parked true twice) (releasing (holding sender₁ ∷ vacantSlot ∷ holding sender₁ ∷ [])) ≡ true
+  pub none-left-names : says (parked true twice) (releasing (holding sender₁ ∷ vacantSlot ∷ holding sender₁ ∷ [])) ≡ naming (waiting task₁ ∷ [])
   pub lasting-ends : ending (parked false once) (releasing (holding sender₁ ∷ [])) ≡ false
   pub lasting-names : says (parked false once) (releasing (holding sender₁ ∷ [])) ≡ naming []
   -- a clearing
   pub clearing-ends : ending (parked true once) (call.clear task₁) ≡ true
   pub clearing-counts : says (parked true once) (call.clear task₁) ≡ call.cleared (Cleared 1)
   -- waiters in list order: the second channel's slot stands first, so that the first channel's waiter has the second turn
-  pub order-ends : ending both (releasing (vacant ∷ holding sender₂ ∷ holding sender₁ ∷ [])) ≡ true
-  pub order-names : says both (releasing (vacant ∷ holding sender₂ ∷ holding sender₁ ∷ [])) ≡ naming (waiting task₂ ∷ waiting task₁ ∷ [])
-  pub order-turn : turnOf (both .table) 0 [] (vacant ∷ holding sender₂ ∷ holding sender₁ ∷ vacant ∷ []) ≡ 1
+  pub order-ends : ending both (releasing (vacantSlot ∷ holding sender₂ ∷ holding sender₁ ∷ [])) ≡ true
+  pub order-names : says both (releasing (vacantSlot ∷ holding sender₂ ∷ holding sender₁ ∷ [])) ≡ naming (waiting task₂ ∷ waiting task₁ ∷ [])
+  pub order-turn : turnOf (both .table) 0 [] (vacantSlot ∷ holding sender₂ ∷ holding sender₁ ∷ vacantSlot ∷ []) ≡ 1
   -- where nobody waits on the second channel, it is named at the first place
-  pub alone-names : says first (releasing (vacant ∷ holding sender₂ ∷ holding sender₁ ∷ [])) ≡ naming (waiting task₁ ∷ [])
-  pub alone-turn : turnOf (first .table) 0 [] (vacant ∷ holding sender₂ ∷ holding sender₁ ∷ vacant ∷ []) ≡ 0
+  pub alone-names : says first (releasing (vacantSlot ∷ holding sender₂ ∷ holding sender₁ ∷ [])) ≡ naming (waiting task₁ ∷ [])
+  pub alone-turn : turnOf (first .table) 0 [] (vacantSlot ∷ holding sender₂ ∷ holding sender₁ ∷ vacantSlot ∷ []) ≡ 0
   -- an accepted send on the other channel is none on this one
   pub other-ends : ending both (call.send sender₂ hello) ≡ false
   pub other-names : says both (call.send sender₂ hello) ≡ call.sent (send.the-variants.Sent (waiting task₂))

@@ -4,11 +4,11 @@ use mathlib.Core.Bool.{Bool, false}
 use mathlib.Core.List.{[], _∷_}
 use Prim.Native.Nat.{ℕ}
 use Rattle.laws.specs.Pick as picks
-use Rattle.laws.specs.Place as places
+use Rattle.laws.specs.Search as places
 use Rattle.cap.specs.Id.{idOf}
 use Rattle.mint.specs.Generation as generations
-use Rattle.ipc_rules.specs.State.{nobody}
-use Rattle.ipc_rules.specs.Make.{freshOf, sizesOf}
+use Rattle.ipc_rules.specs.State.{nobody, sizesOf}
+use Rattle.ipc_rules.specs.Make.{freshOf}
 use Rattle.ipc_rules.specs.Create.{createOf}
 use Rattle.ipc_rules.specs.Send.{sendOf}
 use Rattle.ipc_rules.specs.Observe.{queuedOf}

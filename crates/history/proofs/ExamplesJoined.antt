@@ -4,15 +4,15 @@ use mathlib.Core.Bool.{true}
 use mathlib.Core.List.{List, [], _∷_}
 use Rattle.laws.specs.Pick as picks
 use Rattle.laws.specs.Every as everys
-use Rattle.laws.specs.Place as places
+use Rattle.laws.specs.Search as places
 use Rattle.cap.specs.Id.{idOf}
-use Rattle.cap.specs.Slot.{vacant, holding}
+use Rattle.cap.specs.Slot.{vacantSlot, holding}
 use Rattle.cap.specs.Word as words
 use Rattle.capslots.specs.Table.{freshTable}
 use Rattle.capslots.specs.Rows as rowcalls
 use Rattle.mint.specs.Generation as generations
-use Rattle.ipc_rules.specs.State.{nobody}
-use Rattle.ipc_rules.specs.Make.{freshOf, sizesOf}
+use Rattle.ipc_rules.specs.State.{nobody, sizesOf}
+use Rattle.ipc_rules.specs.Make.{freshOf}
 use Rattle.ipc_rules.specs.Create.{createOf}
 use Rattle.ipc_rules.specs.Receive.{parkOf}
 use Rattle.ipc_rules.specs.Holds as holds
@@ -38,7 +38,7 @@ deeds = call (create true) ∷ spawn 0 (4295032832 ∷ []) ∷ call (park (idOf 
 
 -- the leave of a row from 54 up is refused and makes no call
 abbrev calls : List Call
-calls = create true ∷ register (4295032832 ∷ []) ∷ park (idOf 1 1) task ∷ release (holding (idOf 0 1)) vacant vacant vacant ∷ []
+calls = create true ∷ register (4295032832 ∷ []) ∷ park (idOf 1 1) task ∷ release (holding (idOf 0 1)) vacantSlot vacantSlot vacantSlot ∷ []
 
 pub joined-calls : deedsCalls (record { channels = freshOf (sizesOf 1 2 1); rows = freshTable }) deeds ≡ calls
 unfolding deedsCalls deedCalls afterDeed spawnCalls leaveCalls ifAccepted joins.spawnOf joins.leaveOf rowcalls.seedOf rowcalls.drainOf words.readWord words.orVacant everys.every picks.pick

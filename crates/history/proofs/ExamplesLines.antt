@@ -4,7 +4,7 @@ use mathlib.Core.Path.{_≡_, refl}
 use mathlib.Core.List.{List, [], _∷_}
 use Prim.Native.Nat.{ℕ}
 use Rattle.laws.specs.Pick as picks
-use Rattle.laws.specs.Place as places
+use Rattle.laws.specs.Search as places
 use Rattle.mint.specs.Generation as generations
 use Rattle.ipc_rules.specs.Answers.{waiterValues}
 use Rattle.ipc_rules.specs.Create.{createOf}

@@ -5,11 +5,10 @@ use mathlib.Core.List.{List, [], _∷_}
 use Prim.Native.Nat.{ℕ}
 use lib.ListN.{drop}
 use Rattle.laws.specs.Pick as picks
-use Rattle.laws.specs.Place as places
+use Rattle.laws.specs.Search as places
 use Rattle.cap.specs.Id.{idOf}
 use Rattle.mint.specs.Generation as generations
-use Rattle.ipc_rules.specs.State.{nobody}
-use Rattle.ipc_rules.specs.Make.{sizesOf}
+use Rattle.ipc_rules.specs.State.{nobody, sizesOf}
 use Rattle.ipc_rules.specs.Create.{createOf}
 use Rattle.ipc_rules.specs.Send.{sendOf}
 use Rattle.ipc_rules.specs.Receive.{recvOf, parkOf}

@@ -9,7 +9,7 @@ use lib.Dec.{ltb}
 use lib.ListN.{getD, length}
 use Rattle.laws.specs.Pick.{pick}
 use Rattle.laws.specs.Every.{every}
-use Rattle.cap.specs.Slot.{vacant, holding}
+use Rattle.cap.specs.Slot.{vacantSlot, holding}
 use Rattle.cap.specs.Word.{wordOf, wordsRead, slotsOf}
 use Rattle.cap.specs.declared.CapId.{CapId}
 use Rattle.cap.specs.declared.slot.Slot.{Slot}
@@ -73,7 +73,7 @@ give-number give.the-variants.BadSlot n e = omega arith
 give-number give.the-variants.BadTable n e = omega arith
 
 -- ---- a row of four is its four slots
-four : (l : List Slot) → length l ≡ 4 → fourSlots (getD l 0 vacant) (getD l 1 vacant) (getD l 2 vacant) (getD l 3 vacant) ≡ l
+four : (l : List Slot) → length l ≡ 4 → fourSlots (getD l 0 vacantSlot) (getD l 1 vacantSlot) (getD l 2 vacantSlot) (getD l 3 vacantSlot) ≡ l
 four [] e = absurd (omega arith)
 four (a ∷ []) e = absurd (omega arith)
 four (a ∷ b ∷ []) e = absurd (omega arith)
@@ -84,7 +84,7 @@ four (a ∷ b ∷ c ∷ d ∷ x ∷ l) e = absurd (omega arith)
 drained-four : (rows : Rows) (r : ℕ) → Shape rows → length (drainOf rows r .slots) ≡ 4
 drained-four rows r shape = drain-ways (λ (x : Drained). length (x .slots) ≡ 4) rows r (λ _. refl) (λ l. shape .slots r l)
 
-pub row-four : (rows : Rows) (r : ℕ) → Shape rows → let l = drainOf rows r .slots in fourSlots (getD l 0 vacant) (getD l 1 vacant) (getD l 2 vacant) (getD l 3 vacant) ≡ l
+pub row-four : (rows : Rows) (r : ℕ) → Shape rows → let l = drainOf rows r .slots in fourSlots (getD l 0 vacantSlot) (getD l 1 vacantSlot) (getD l 2 vacantSlot) (getD l 3 vacantSlot) ≡ l
 row-four rows r shape = four (drainOf rows r .slots) (drained-four rows r shape)
 
 -- ---- an id of 32 bits reads as a word, and one past them opens nothing in a run

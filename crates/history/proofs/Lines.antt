@@ -17,9 +17,8 @@ use Rattle.logread.proofs.Numbers.{below}
 use Rattle.operations.specs.Apply.{allDone, unknownDone, applyOf}
 use Rattle.operations.specs.Channels.{createDone, sendDone, receiveDone, parkDone, queuedDone, revokeDone, holdersDone, clearDone, noteAuthorityDone, noteStateDone, countsDone}
 use Rattle.operations.specs.Done.{Done}
-use Rattle.operations.specs.Fours.{releaseDone, leaveDone}
-use Rattle.operations.specs.Holds.{registerDone}
-use Rattle.operations.specs.Joined.{spawnDone, giveDone}
+use Rattle.operations.specs.Holds.{registerDone, releaseDone}
+use Rattle.operations.specs.Joined.{spawnDone, leaveDone, giveDone}
 use Rattle.operations.specs.Operands.{idAt}
 use Rattle.operations.specs.declared.Tables.{Tables}
 use Rattle.history.specs.Calls.{Call, answer}

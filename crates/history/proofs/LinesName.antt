@@ -27,7 +27,8 @@ use Rattle.logread.specs.Lists.{listSlots}
 use Rattle.operations.specs.Apply.{allDone, unknownDone, applyOf}
 use Rattle.operations.specs.Channels.{sendDone, revokeDone, clearDone}
 use Rattle.operations.specs.Done.{Done}
-use Rattle.operations.specs.Fours.{releaseDone, leaveDone}
+use Rattle.operations.specs.Holds.{releaseDone}
+use Rattle.operations.specs.Joined.{leaveDone}
 use Rattle.operations.specs.Operands.{idAt, taskAt, messageAt}
 use Rattle.operations.specs.declared.Tables.{Tables}
 use Rattle.history.specs.Calls.{Call, send, revoke, releasing, clear, answer}

@@ -15,20 +15,19 @@ use Rattle.ipc_rules.specs.Make.{inRange}
 use Rattle.joined.specs.Steps.{spawnOf, leaveOf, giveOf}
 use Rattle.logread.specs.Little.{byteAt}
 use Rattle.logread.specs.Lists.{listWords}
-use Rattle.operations.specs.Operands.{idAt}
+use Rattle.operations.specs.Operands.{idAt, sizesAt}
 use Rattle.operations.specs.Apply.{allDone, unknownDone, applyOf}
 use Rattle.operations.specs.Channels.{allFresh, newDone, createDone, sendDone, receiveDone, parkDone, queuedDone, revokeDone, holdersDone, clearDone, noteAuthorityDone, noteStateDone, countsDone}
 use Rattle.operations.specs.Done.{Done}
-use Rattle.operations.specs.Fours.{releaseDone, drainDone, leaveDone}
-use Rattle.operations.specs.Holds.{registerDone}
-use Rattle.operations.specs.Joined.{spawnDone, giveDone}
+use Rattle.operations.specs.Holds.{registerDone, releaseDone}
+use Rattle.operations.specs.Joined.{spawnDone, leaveDone, giveDone}
 use Rattle.operations.specs.Mints.{taskMintDone, taskLookupDone, taskEndDone, irqMintDone, irqLookupDone}
-use Rattle.operations.specs.Rows.{getDone, holdsDone, seedDone, installDone, transferDone}
+use Rattle.operations.specs.Rows.{getDone, holdsDone, seedDone, installDone, transferDone, drainDone}
 use Rattle.operations.specs.declared.Tables.{Tables}
 use Rattle.history.specs.Calls.{Call, after}
 use Rattle.history.specs.World.{World, run, start, Reached, fresh}
 use Rattle.history.specs.Joined.{spawnCalls, leaveCalls, giveCalls}
-use Rattle.history.specs.Operations.{Operation, allCalls, callsOf, sizesAt, renews, Logged, follow, operate, operated, beginning, Follows, OperationsFollow, LogsFollow, lasting, callsOver, OperationsRun}
+use Rattle.history.specs.Operations.{Operation, allCalls, callsOf, renews, Logged, follow, operate, operated, beginning, Follows, OperationsFollow, LogsFollow, lasting, callsOver, OperationsRun}
 use Rattle.history.proofs.Kept.{run-on, reached-run}
 use Rattle.history.proofs.Along.{Along, end, _▸_, along-all}
 use Rattle.history.proofs.Joined.{one-call, joined-runs}
@@ -129,19 +128,19 @@ module _ (w : World) (log : List ℕ) (t : Tables) (reached : Reached w) (same :
       record { reached = reached-run reached _; channels = x .table; rows = x .rows }
 
   -- `new`: a fresh start, or nothing
-  by-new : (b : Bool) → inRange (sizesAt log) ≡ b → Follows (record {
-    world = pick b (start (sizesAt log)) (run w []);
+  by-new : (b : Bool) → inRange (sizesAt log 3) ≡ b → Follows (record {
+    world = pick b (start (sizesAt log 3)) (run w []);
     tables = pick {A = Done} b
-        (record { number = no.accepted; values = []; tables = allFresh (byteAt log 3) (byteAt log 4) (byteAt log 5) })
+        (record { number = no.none; values = []; tables = allFresh (byteAt log 3) (byteAt log 4) (byteAt log 5) })
         (record { number = no.badSizes; values = []; tables = t }) .tables;
   })
   unfolding pick run
-  by-new true h = record { reached = fresh (sizesAt log) h; channels = refl; rows = shape-fresh }
+  by-new true h = record { reached = fresh (sizesAt log 3) h; channels = refl; rows = shape-fresh }
   by-new false h = record { reached = reached; channels = same; rows = shape }
 
   begins-anew : Follows (operate (record { world = w; tables = t }) (record { number = 0; bytes = log }))
   unfolding operate follow applyOf callsOf newDone
-  begins-anew = by-new (inRange (sizesAt log)) refl
+  begins-anew = by-new (inRange (sizesAt log 3)) refl
 
   by-number : (n : ℕ) → Follows (operate (record { world = w; tables = t }) (record { number = n; bytes = log }))
   unfolding operate

@@ -10,7 +10,7 @@ use Rattle.laws.specs.Pick.{pick}
 use Rattle.laws.proofs.Cases.{yes, no}
 use Rattle.cap.specs.Rights.{sendRight, receiveRight}
 use Rattle.cap.specs.declared.CapId.{CapId}
-use Rattle.ipc_rules.specs.State.{mailboxAt, messageAt}
+use Rattle.ipc_rules.specs.State.{mailboxAt, messageIn}
 use Rattle.ipc_rules.specs.Sound.{Sound}
 use Rattle.ipc_rules.specs.Answers.{sendNumber, sendValues, recvNumber, recvValues, parkNumber, parkValues, queuedNumber, queuedValues, revokeNumber, revokeValues, holdersNumber, holdersValues}
 use Rattle.ipc_rules.specs.Counts.{authorityRaised, stateRaised}
@@ -19,7 +19,7 @@ use Rattle.ipc_rules.specs.Send.{sendOf}
 use Rattle.ipc_rules.specs.Receive.{recvOf, parkOf, otherWaits, oldest, takenFrom, parkedIn}
 use Rattle.ipc_rules.specs.Revoke.{revokeOf}
 use Rattle.ring.specs.Ring.{ringFrom}
-use Rattle.ipc_rules.specs.Views.{queueOf, waiterOf, holdsOf, ephemeralOf, Alike, OnlyCounts}
+use Rattle.ipc_rules.specs.Views.{queueOf, waiterOf, holdCount, ephemeralOf, Alike, OnlyCounts}
 use Rattle.ipc_rules.specs.declared.state.Message.{Message}
 use Rattle.ipc_rules.specs.declared.state.TaskId.{TaskId}
 use Rattle.ipc_rules.specs.declared.state.Table.{Table}
@@ -62,19 +62,19 @@ park-choice false false x y z = refl
 module _ (t : Table) (c : CapId) (task : TaskId) (k : ℕ) where
   abbrev unsaid : Parking
   unsaid =
-      pick (ephemeralOf t k && eqb (holdsOf t k) 0) (record { answer = Cancelled; table = t })
+      pick (ephemeralOf t k && eqb (holdCount t k) 0) (record { answer = Cancelled; table = t })
       (pick (otherWaits (waiterOf t k) task) (record { answer = Busy; table = stateRaised t })
       (record { answer = Parked; table = parkedIn t k task }))
 
   -- n messages wait
   by-length : (n : ℕ) →
       pick {A = Parking} (ltb 0 n) (record { answer = Given (oldest t k); table = takenFrom t k }) unsaid .answer
-      ≡ parkBy task (ringFrom (messageAt t k) (t .sizes .depth) (mailboxAt t k .ring .tail) n) (ephemeralOf t k) (holdsOf t k) (waiterOf t k)
+      ≡ parkBy task (ringFrom (messageIn t k) (t .sizes .depth) (mailboxAt t k .ring .tail) n) (ephemeralOf t k) (holdCount t k) (waiterOf t k)
   unfolding parkBy ringFrom pick
-  by-length zero = park-choice (ephemeralOf t k && eqb (holdsOf t k) 0) (otherWaits (waiterOf t k) task) _ _ _
+  by-length zero = park-choice (ephemeralOf t k && eqb (holdCount t k) 0) (otherWaits (waiterOf t k) task) _ _ _
   by-length (suc n) = rw (lt-ltb 0 (suc n) (omega arith))
 
-  park-answers : openingOf t c receiveRight ≡ Opens k → parkOf t c task .answer ≡ parkBy task (queueOf t k) (ephemeralOf t k) (holdsOf t k) (waiterOf t k)
+  park-answers : openingOf t c receiveRight ≡ Opens k → parkOf t c task .answer ≡ parkBy task (queueOf t k) (ephemeralOf t k) (holdCount t k) (waiterOf t k)
   unfolding parkOf queueOf opened
   park-answers o = rw o (by-length (mailboxAt t k .ring .len))
 

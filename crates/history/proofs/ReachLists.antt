@@ -12,7 +12,7 @@ use Rattle.laws.specs.Every.{every}
 use Rattle.laws.proofs.Bools.{either, same?}
 use Rattle.laws.proofs.Cases.{not-both}
 use Rattle.laws.proofs.Lists.{all-reset}
-use Rattle.cap.specs.Slot.{vacant}
+use Rattle.cap.specs.Slot.{vacantSlot}
 use Rattle.cap.specs.Word.{readWord, isWord, wordsRead, orVacant, slotAt, slotsOf}
 use Rattle.cap.specs.declared.CapId.{CapId}
 use Rattle.cap.specs.declared.slot.Slot.{Slot}
@@ -21,7 +21,7 @@ use Rattle.cap.proofs.Words.{reads-test, slots-at, slots-length}
 use Rattle.ipc_rules.specs.Sound.{Sound}
 use Rattle.ipc_rules.specs.Opening.{opened, holdOf}
 use Rattle.ipc_rules.specs.Holds.{registered, registeredAll, released, releasedAll, releaseOf, Freed}
-use Rattle.ipc_rules.specs.Views.{waiterOf, holdsOf, ephemeralOf, heldBy, heldIn, Alike, Steady}
+use Rattle.ipc_rules.specs.Views.{waiterOf, holdCount, ephemeralOf, heldBy, heldIn, Alike, Steady}
 use Rattle.ipc_rules.specs.declared.state.Table.{Table}
 use Rattle.ipc_rules.specs.declared.answers.Registering.{Registering}
 use Rattle.ipc_rules.specs.declared.opening.Opening.{Opening}
@@ -41,12 +41,12 @@ use Rattle.history.specs.Ids.{OpensOnly}
 
 -- the four slots of a release
 abbrev four : List Slot → List Slot
-four slots = fourSlots (getD slots 0 vacant) (getD slots 1 vacant) (getD slots 2 vacant) (getD slots 3 vacant)
+four slots = fourSlots (getD slots 0 vacantSlot) (getD slots 1 vacantSlot) (getD slots 2 vacantSlot) (getD slots 3 vacantSlot)
 
 -- ---- a mailbox that two lists hold alike
 module _ (t : Table) (j : ℕ) where
   -- two lists whose slots hold mailbox j alike, place by place
-  held-places : (xs ys : List Slot) → length xs ≡ length ys → ((p : ℕ) → heldBy t j (getD xs p vacant) ≡ heldBy t j (getD ys p vacant)) → heldIn t j xs ≡ heldIn t j ys
+  held-places : (xs ys : List Slot) → length xs ≡ length ys → ((p : ℕ) → heldBy t j (getD xs p vacantSlot) ≡ heldBy t j (getD ys p vacantSlot)) → heldIn t j xs ≡ heldIn t j ys
   unfolding heldIn
   held-places [] [] l h = refl
   held-places [] (y ∷ ys) l h = absurd (omega arith)
@@ -64,7 +64,7 @@ module _ (t : Table) (j : ℕ) where
       }
 
   module _ (r s : Freed) (m : ℕ) (a : ReleasedAt t j m r) (b : ReleasedAt t j m s) where
-    both-stay : (waiterOf t j .present ≡ true → ephemeralOf t j ≡ true → 0 < holdsOf t j - m) → waiterOf (s .table) j ≡ waiterOf (r .table) j
+    both-stay : (waiterOf t j .present ≡ true → ephemeralOf t j ≡ true → 0 < holdCount t j - m) → waiterOf (s .table) j ≡ waiterOf (r .table) j
     both-stay h =
         let p = a .holds in
         let q = b .holds in
@@ -74,7 +74,7 @@ module _ (t : Table) (j : ℕ) where
     released-waiter =
         ⊎-elim
         (λ x. ⊎-elim
-        (λ e. ⊎-elim (λ z. b .gone x e (b .holds ∙ z) ∙ sym (a .gone x e (a .holds ∙ z))) (λ n. both-stay (λ _ _. omega arith)) (same? (holdsOf t j - m) 0))
+        (λ e. ⊎-elim (λ z. b .gone x e (b .holds ∙ z) ∙ sym (a .gone x e (a .holds ∙ z))) (λ n. both-stay (λ _ _. omega arith)) (same? (holdCount t j - m) 0))
         (λ e. both-stay (λ _ f. absurd (not-both _ f e))) (either (ephemeralOf t j)))
         (λ x. both-stay (λ y _. absurd (not-both _ y x))) (either (waiterOf t j .present))
 
@@ -130,7 +130,7 @@ module _ (w : World) (n : ℕ) (c : CapId) (σ : Sound (w .table)) (only : Opens
         by Shut o = held-none t j x o
         by (Opens k) o = held-other t j x k o (λ q. away (rw q (only .hold x e k o)))
 
-    vacant-none : heldBy t j vacant ≡ 0
+    vacant-none : heldBy t j vacantSlot ≡ 0
     unfolding heldBy holdOf opened pick
     vacant-none = refl
 
@@ -147,11 +147,11 @@ module _ (w : World) (n : ℕ) (c : CapId) (σ : Sound (w .table)) (only : Opens
         held-places t j (slotsOf (set words i 0)) (slotsOf words) (slots-length (set words i 0) ∙ length-set words i 0 ∙ sym (slots-length words))
         (λ p. ap (heldBy t j) (slots-at (set words i 0) p) ∙ word-held words i x r e p ∙ ap (heldBy t j) (sym (slots-at words p)))
 
-    slot-held : (slots : List Slot) (i : ℕ) → getD slots i vacant .id ≡ c → (p : ℕ) → heldBy t j (getD (set slots i vacant) p vacant) ≡ heldBy t j (getD slots p vacant)
+    slot-held : (slots : List Slot) (i : ℕ) → getD slots i vacantSlot .id ≡ c → (p : ℕ) → heldBy t j (getD (set slots i vacantSlot) p vacantSlot) ≡ heldBy t j (getD slots p vacantSlot)
     slot-held slots i e p =
-        all-reset (λ x. heldBy t j x ≡ heldBy t j (getD slots p vacant)) slots i p vacant (λ q. vacant-none ∙ sym (rw q (holds-none (getD slots i vacant) e))) (λ _. refl)
+        all-reset (λ x. heldBy t j x ≡ heldBy t j (getD slots p vacantSlot)) slots i p vacantSlot (λ q. vacant-none ∙ sym (rw q (holds-none (getD slots i vacantSlot) e))) (λ _. refl)
 
-    four-held : (slots : List Slot) (i : ℕ) → getD slots i vacant .id ≡ c → heldIn t j (four (set slots i vacant)) ≡ heldIn t j (four slots)
+    four-held : (slots : List Slot) (i : ℕ) → getD slots i vacantSlot .id ≡ c → heldIn t j (four (set slots i vacantSlot)) ≡ heldIn t j (four slots)
     unfolding heldIn
     four-held slots i e =
         let h₀ = slot-held slots i e 0 in
@@ -178,7 +178,7 @@ module _ (w : World) (n : ℕ) (c : CapId) (σ : Sound (w .table)) (only : Opens
       by (register.all _ _ a) (register.all _ _ b) =
           registered-alike t j (heldIn t j (slotsOf words)) (rw (words-held j away words i x r e) at (a .mailboxes j)) (b .mailboxes j)
 
-  pub alike-release : (slots : List Slot) (i : ℕ) → getD slots i vacant .id ≡ c → AlikeBut w n (releasing slots) (releasing (set slots i vacant))
+  pub alike-release : (slots : List Slot) (i : ℕ) → getD slots i vacantSlot .id ≡ c → AlikeBut w n (releasing slots) (releasing (set slots i vacantSlot))
   unfolding after releaseOf
   alike-release slots i e j away =
-      released-alike t j _ _ (heldIn t j (four slots)) (rw (four-held j away slots i e) at (released-in t (four (set slots i vacant)) σ .mailboxes j)) (released-in t (four slots) σ .mailboxes j)
+      released-alike t j _ _ (heldIn t j (four slots)) (rw (four-held j away slots i e) at (released-in t (four (set slots i vacantSlot)) σ .mailboxes j)) (released-in t (four slots) σ .mailboxes j)

@@ -53,52 +53,52 @@ record Refuses (t : Table) (call : Call) (n : ℕ) (u : Table) : Type 0 where
   only : u ≡ withRefusals t (countsAfter call n (t .counters .refusals))
 
 module _ (t : Table) (σ : Sound t) where
-  send-refuses : (c : CapId) (m : Message) → (sendNumber (sendOf t c m .answer) ≡ no.accepted → ⊥) → Refuses t (send c m) (sendNumber (sendOf t c m .answer)) (sendOf t c m .table)
+  send-refuses : (c : CapId) (m : Message) → (sendNumber (sendOf t c m .answer) ≡ no.none → ⊥) → Refuses t (send c m) (sendNumber (sendOf t c m .answer)) (sendOf t c m .table)
   unfolding listed countsAfter countsBy pick
   send-refuses c m = by (sends.send-ways t c m σ)
     where
-      by : {r : Sending} → sends.SendWays t c m r → (sendNumber (r .answer) ≡ no.accepted → ⊥) → Refuses t (send c m) (sendNumber (r .answer)) (r .table)
+      by : {r : Sending} → sends.SendWays t c m r → (sendNumber (r .answer) ≡ no.none → ⊥) → Refuses t (send c m) (sendNumber (r .answer)) (r .table)
       by (sends.bad-cap _ q) h = rw q (record { given = refl; only = refl })
       by (sends.full _ _ _ q) h = rw q (record { given = refl; only = refl })
       by (sends.sent _ x) h = absurd (h (ap sendNumber (x .answer)))
 
-  recv-refuses : (c : CapId) → (recvNumber (recvOf t c .answer) ≡ no.accepted → ⊥) → Refuses t (receive c) (recvNumber (recvOf t c .answer)) (recvOf t c .table)
+  recv-refuses : (c : CapId) → (recvNumber (recvOf t c .answer) ≡ no.none → ⊥) → Refuses t (receive c) (recvNumber (recvOf t c .answer)) (recvOf t c .table)
   unfolding listed countsAfter countsBy pick
   recv-refuses c = by (receives.recv-ways t c σ)
     where
-      by : {r : Receiving} → receives.RecvWays t c r → (recvNumber (r .answer) ≡ no.accepted → ⊥) → Refuses t (receive c) (recvNumber (r .answer)) (r .table)
+      by : {r : Receiving} → receives.RecvWays t c r → (recvNumber (r .answer) ≡ no.none → ⊥) → Refuses t (receive c) (recvNumber (r .answer)) (r .table)
       by (receives.bad-cap _ q) h = rw q (record { given = refl; only = refl })
       by (receives.empty _ _ _ q) h = rw q (record { given = refl; only = refl })
       by (receives.received _ _ _ a _) h = absurd (h (ap recvNumber a))
 
-  park-refuses : (c : CapId) (task : TaskId) → (parkNumber (parkOf t c task .answer) ≡ no.accepted → ⊥) → Refuses t (park c task) (parkNumber (parkOf t c task .answer)) (parkOf t c task .table)
+  park-refuses : (c : CapId) (task : TaskId) → (parkNumber (parkOf t c task .answer) ≡ no.none → ⊥) → Refuses t (park c task) (parkNumber (parkOf t c task .answer)) (parkOf t c task .table)
   unfolding listed countsAfter countsBy pick
   park-refuses c task = by (parks.park-ways t c task σ)
     where
-      by : {r : Parking} → parks.ParkWays t c task r → (parkNumber (r .answer) ≡ no.accepted → ⊥) → Refuses t (park c task) (parkNumber (r .answer)) (r .table)
+      by : {r : Parking} → parks.ParkWays t c task r → (parkNumber (r .answer) ≡ no.none → ⊥) → Refuses t (park c task) (parkNumber (r .answer)) (r .table)
       by (parks.bad-cap _ q) h = rw q (record { given = refl; only = refl })
       by (parks.given _ _ _ a _) h = absurd (h (ap parkNumber a))
       by (parks.cancelled _ _ _ _ _ q) h = rw q (record { given = refl; only = refl })
       by (parks.busy _ _ _ _ _ q) h = rw q (record { given = refl; only = refl })
       by (parks.parked _ _ _ a _) h = absurd (h (ap parkNumber a))
 
-  revoke-refuses : (c : CapId) → (revokeNumber (revokeOf t c .answer) ≡ no.accepted → ⊥) → Refuses t (revoke c) (revokeNumber (revokeOf t c .answer)) (revokeOf t c .table)
+  revoke-refuses : (c : CapId) → (revokeNumber (revokeOf t c .answer) ≡ no.none → ⊥) → Refuses t (revoke c) (revokeNumber (revokeOf t c .answer)) (revokeOf t c .table)
   unfolding listed countsAfter countsBy pick
   revoke-refuses c = by (revokes.revoke-ways t c σ)
     where
-      by : {r : Revoking} → revokes.RevokeWays t c r → (revokeNumber (r .answer) ≡ no.accepted → ⊥) → Refuses t (revoke c) (revokeNumber (r .answer)) (r .table)
+      by : {r : Revoking} → revokes.RevokeWays t c r → (revokeNumber (r .answer) ≡ no.none → ⊥) → Refuses t (revoke c) (revokeNumber (r .answer)) (r .table)
       by (revokes.bad-cap _ q) h = rw q (record { given = refl; only = refl })
       by (revokes.revoked _ _ _ a _) h = absurd (h (ap revokeNumber a))
 
-  register-refuses : (words : List ℕ) → (registerNumber (registerOf t words .answer) ≡ no.accepted → ⊥) → Refuses t (register words) (registerNumber (registerOf t words .answer)) (registerOf t words .table)
+  register-refuses : (words : List ℕ) → (registerNumber (registerOf t words .answer) ≡ no.none → ⊥) → Refuses t (register words) (registerNumber (registerOf t words .answer)) (registerOf t words .table)
   unfolding listed countsAfter countsBy pick
   register-refuses words = by (registers.register-call-ways t words σ)
     where
-      by : {r : Registering} → registers.RegisterCallWays t words r → (registerNumber (r .answer) ≡ no.accepted → ⊥) → Refuses t (register words) (registerNumber (r .answer)) (r .table)
+      by : {r : Registering} → registers.RegisterCallWays t words r → (registerNumber (r .answer) ≡ no.none → ⊥) → Refuses t (register words) (registerNumber (r .answer)) (r .table)
       by (registers.bad-word _ q) h = rw q (record { given = refl; only = refl })
       by (registers.all _ a _) h = absurd (h (ap registerNumber a))
 
-  queued-refuses : (c : CapId) → (queuedNumber (queuedOf t c) ≡ no.accepted → ⊥) → Refuses t (queued c) (queuedNumber (queuedOf t c)) t
+  queued-refuses : (c : CapId) → (queuedNumber (queuedOf t c) ≡ no.none → ⊥) → Refuses t (queued c) (queuedNumber (queuedOf t c)) t
   unfolding listed countsAfter
   queued-refuses c h = by (eitherOf t c) refl
     where
@@ -106,7 +106,7 @@ module _ (t : Table) (σ : Sound t) where
       by Shut o = rw (queued-refused t c o) (record { given = refl; only = refl })
       by (Opens k) o = absurd (h (ap queuedNumber (queued-says t c k o)))
 
-  holders-refuses : (c : CapId) → (holdersNumber (holdersOf t c) ≡ no.accepted → ⊥) → Refuses t (holders c) (holdersNumber (holdersOf t c)) t
+  holders-refuses : (c : CapId) → (holdersNumber (holdersOf t c) ≡ no.none → ⊥) → Refuses t (holders c) (holdersNumber (holdersOf t c)) t
   unfolding listed countsAfter
   holders-refuses c h = by (openingOf t c sendRight) refl
     where
@@ -118,14 +118,14 @@ module _ (t : Table) (σ : Sound t) where
 settles : (w : World) (call : Call) (n : ℕ) (u : Table) → step w call ≡ settled w u → Refuses (w .table) call n u → Refused w call n
 settles w call n u q x = record { given = x .given; only = q ∙ ap (settled w) (x .only) }
 
-create-refused : (w : World) (b : Bool) → Sound (w .table) → (createNumber (createOf (w .table) b .answer) ≡ no.accepted → ⊥) → Refused w (create b) (createNumber (createOf (w .table) b .answer))
+create-refused : (w : World) (b : Bool) → Sound (w .table) → (createNumber (createOf (w .table) b .answer) ≡ no.none → ⊥) → Refused w (create b) (createNumber (createOf (w .table) b .answer))
 unfolding step answer after onCreation ifCreated listed countsAfter countsBy pick
 create-refused w b σ = by (creates.create-ways (w .table) b σ)
   where
     same : (x : Creation) → createOf (w .table) b ≡ x → numbered w x ≡ settled w (w .table) → step w (create b) ≡ settled w (w .table)
     same x q e = subst (λ (y : Creation). numbered w y ≡ settled w (w .table)) (sym q) e
 
-    by : creates.CreateWays (w .table) b (createOf (w .table) b) → (createNumber (createOf (w .table) b .answer) ≡ no.accepted → ⊥) → Refused w (create b) (createNumber (createOf (w .table) b .answer))
+    by : creates.CreateWays (w .table) b (createOf (w .table) b) → (createNumber (createOf (w .table) b .answer) ≡ no.none → ⊥) → Refused w (create b) (createNumber (createOf (w .table) b .answer))
     by (creates.no-mailbox _ q) h = rw q (record { given = refl; only = same _ q refl })
     by (creates.no-endpoint _ _ _ q) h = rw q (record { given = refl; only = same _ q refl })
     by (creates.created _ _ _ x) h = absurd (h (ap createNumber (x .answer)))

@@ -14,9 +14,8 @@ use Rattle.cap.specs.Id.{idOf, indexOf}
 use Rattle.cap.specs.Rights.{sendRight, receiveRight}
 use Rattle.cap.specs.declared.CapId.{CapId}
 use Rattle.cap.specs.declared.CapRights.{CapRights}
-use Rattle.ipc_rules.specs.State.{endpointLive, mailboxLive}
+use Rattle.ipc_rules.specs.State.{endpointLive, mailboxLive, sizesOf}
 use Rattle.ipc_rules.specs.Create.{createOf}
-use Rattle.ipc_rules.specs.Make.{sizesOf}
 use Rattle.ipc_rules.specs.Opening.{openingOf, anyRightOf, opened}
 use Rattle.ipc_rules.specs.Revoke.{revokeOf}
 use Rattle.ipc_rules.specs.declared.state.Channel.{Channel}

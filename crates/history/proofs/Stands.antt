@@ -12,14 +12,14 @@ use Rattle.cap.specs.Rights.{sendRight, receiveRight}
 use Rattle.cap.specs.Slot.{holding}
 use Rattle.cap.specs.Word.{wordOf, wordsRead, orVacant, slotsOf}
 use Rattle.cap.proofs.Words.{holding-back, reads-test}
-use Rattle.ipc_rules.specs.State.{nobody}
+use Rattle.ipc_rules.specs.State.{nobody, waiting}
 use Rattle.ipc_rules.specs.Sound.{Sound}
 use Rattle.ipc_rules.specs.Counts.{raised}
 use Rattle.ipc_rules.specs.Opening.{openingOf, holdOf}
 use Rattle.ipc_rules.specs.Send.{sendOf}
-use Rattle.ipc_rules.specs.Receive.{recvOf, parkOf, waiting}
+use Rattle.ipc_rules.specs.Receive.{recvOf, parkOf}
 use Rattle.ipc_rules.specs.Holds.{registerOf}
-use Rattle.ipc_rules.specs.Views.{queueOf, waiterOf, holdsOf, ephemeralOf, heldIn, raisedBy, Steady}
+use Rattle.ipc_rules.specs.Views.{queueOf, waiterOf, holdCount, ephemeralOf, heldIn, raisedBy, Steady}
 use Rattle.ipc_rules.specs.declared.state.Channel.{Channel}
 use Rattle.ipc_rules.specs.declared.state.Message.{Message}
 use Rattle.ipc_rules.specs.declared.state.TaskId.{TaskId}
@@ -45,14 +45,14 @@ pub record Stands (t : Table) (k : ℕ) (ids : Channel) (b : Bool) (n : ℕ) (q 
   pub sends : openingOf t (ids .send) sendRight ≡ Opens k
   pub receives : openingOf t (ids .recv) receiveRight ≡ Opens k
   pub kind : ephemeralOf t k ≡ b
-  pub holds : holdsOf t k ≡ n
+  pub holds : holdCount t k ≡ n
   pub queue : queueOf t k ≡ q
   pub waiter : waiterOf t k ≡ x
 
 module _ {t : Table} {k : ℕ} {ids : Channel} {b : Bool} {n : ℕ} where
   -- in u the openings and the kind are as they were, and it has n′ holds, q′ queued, and x′ waiting
   still : {q : List Message} {x : Waiter} {u : Table} {n′ : ℕ} {q′ : List Message} {x′ : Waiter} → Stands t k ids b n q x →
-      Sound u → Steady t u → ephemeralOf u k ≡ ephemeralOf t k → holdsOf u k ≡ n′ → queueOf u k ≡ q′ → waiterOf u k ≡ x′ → Stands u k ids b n′ q′ x′
+      Sound u → Steady t u → ephemeralOf u k ≡ ephemeralOf t k → holdCount u k ≡ n′ → queueOf u k ≡ q′ → waiterOf u k ≡ x′ → Stands u k ids b n′ q′ x′
   still s σ y e h p w =
       record {
         sound = σ;
@@ -127,7 +127,7 @@ module _ {t : Table} {k : ℕ} {ids : Channel} {b : Bool} {n : ℕ} where
       by (parks.cancelled j o _ e z _) =
           let h = at j o in
           let some = held (sym (s .kind) ∙ ap (ephemeralOf t) (sym h) ∙ e) in
-          let none : n ≡ 0 = sym (s .holds) ∙ ap (holdsOf t) (sym h) ∙ z in
+          let none : n ≡ 0 = sym (s .holds) ∙ ap (holdCount t) (sym h) ∙ z in
           absurd (omega arith)
       by (parks.busy j o _ p _ _) =
           let none : waiterOf t j .present ≡ false = ap (λ (i : ℕ). waiterOf t i .present) (at j o) ∙ ap (λ (x : Waiter). x .present) (s .waiter) in
@@ -153,7 +153,7 @@ module _ (t : Table) (k : ℕ) (ids : Channel) (b : Bool) (small : ids .send .ra
   unfolding heldIn slotsOf orVacant
   once = rw (holding-back (ids .send) small, held-one t k (holding (ids .send)) hold)
 
-  raised-once : raisedBy (heldIn t k (slotsOf (word ∷ []))) (holdsOf t k) ≡ 1
+  raised-once : raisedBy (heldIn t k (slotsOf (word ∷ []))) (holdCount t k) ≡ 1
   unfolding raisedBy raised pick
   raised-once = rw (once, s .holds)
 

@@ -8,8 +8,8 @@ use native.Mathlib.Omega.{arith}
 use Rattle.laws.proofs.Bools.{either}
 use Rattle.laws.proofs.Cases.{not-both}
 use Rattle.cap.specs.Rights.{receiveRight}
-use Rattle.ipc_rules.specs.State.{nobody, mailboxLive}
-use Rattle.ipc_rules.specs.Receive.{parkOf, waiting}
+use Rattle.ipc_rules.specs.State.{nobody, mailboxLive, waiting}
+use Rattle.ipc_rules.specs.Receive.{parkOf}
 use Rattle.ipc_rules.specs.Views.{waiterOf}
 use Rattle.ipc_rules.specs.declared.state.TaskId.{TaskId}
 use Rattle.ipc_rules.specs.declared.state.Waiter.{Waiter}

@@ -15,13 +15,13 @@ use Rattle.laws.proofs.Every.{and-left, and-right, and-both}
 use Rattle.cap.specs.Rights.{sendRight}
 use Rattle.cap.specs.declared.CapId.{CapId}
 use Rattle.cap.specs.declared.slot.Slot.{Slot}
-use Rattle.ipc_rules.specs.State.{nobody, mailboxLive}
+use Rattle.ipc_rules.specs.State.{nobody, mailboxLive, waiting}
 use Rattle.ipc_rules.specs.Opening.{opened}
 use Rattle.ipc_rules.specs.Answers.{sendNumber}
-use Rattle.ipc_rules.specs.Receive.{sameTask, waiting}
+use Rattle.ipc_rules.specs.Receive.{sameTask}
 use Rattle.ipc_rules.specs.Holds.{fourOf, releaseOf, releasedAll}
 use Rattle.ipc_rules.specs.Waiters.{clearOf}
-use Rattle.ipc_rules.specs.Views.{waiterOf, holdsOf, ephemeralOf, heldIn, Alike}
+use Rattle.ipc_rules.specs.Views.{waiterOf, holdCount, ephemeralOf, heldIn, Alike}
 use Rattle.ipc_rules.specs.declared.state.Message.{Message}
 use Rattle.ipc_rules.specs.declared.state.TaskId.{TaskId}
 use Rattle.ipc_rules.specs.declared.state.Waiter.{Waiter}
@@ -99,7 +99,7 @@ module _ (w : World) (τ : Tidy w) (n k : ℕ) (x : TaskId) (h : Waits w n k x) 
   was j e = ap (waiterOf t) (sym e) ∙ h .waiter
 
   -- ---- send
-  send-out : (c : CapId) (m : Message) (r : Sending) → send.SendWays t c m r → Outcome t (r .table) k (r .answer ≡ Sent (waiting x)) (on w n c sendRight && eqb (sendNumber (r .answer)) no.accepted)
+  send-out : (c : CapId) (m : Message) (r : Sending) → send.SendWays t c m r → Outcome t (r .table) k (r .answer ≡ Sent (waiting x)) (on w n c sendRight && eqb (sendNumber (r .answer)) no.none)
   send-out c m r (send.bad-cap o q) = rw (o, q, nowhere) (alike-stays (authority-only t .mailboxes k))
   send-out c m r (send.full j o e q) = rw (q, refused (on w n c sendRight)) (alike-stays (full-only t .mailboxes k))
   send-out c m r (send.sent a y) =
@@ -115,7 +115,7 @@ module _ (w : World) (τ : Tidy w) (n k : ℕ) (x : TaskId) (h : Waits w n k x) 
 
   -- ---- release
   abbrev leavesNone : List Slot → Bool
-  leavesNone ss = ephemeralOf t k && eqb (holdsOf t k - heldIn t k ss) 0
+  leavesNone ss = ephemeralOf t k && eqb (holdCount t k - heldIn t k ss) 0
 
   release-out :
       (ss : List Slot) → length ss ≡ 4 →
@@ -129,12 +129,12 @@ module _ (w : World) (τ : Tidy w) (n k : ℕ) (x : TaskId) (h : Waits w n k x) 
       let there : waiterOf t k .present ≡ true = ap (λ (z : Waiter). z .present) (h .waiter) in
       ⊎-elim
       (λ e.
-      let f = and-left (ephemeralOf t k) (eqb (holdsOf t k - heldIn t k ss) 0) e in
-      let z = eqb-true _ _ (and-right (ephemeralOf t k) (eqb (holdsOf t k - heldIn t k ss) 0) e) in
+      let f = and-left (ephemeralOf t k) (eqb (holdCount t k - heldIn t k ss) 0) e in
+      let z = eqb-true _ _ (and-right (ephemeralOf t k) (eqb (holdCount t k - heldIn t k ss) 0) e) in
       rw e (gone (b .gone there f (held ∙ z)) (four-at (releasedAll t ss .woken) (omega arith) (turnOf t k [] ss) ∙ release-turn t k ss (τ .sound) f there z ∙ h .waiter)))
       (λ e. rw e (stays (b .live) (b .stays (λ _ f.
-      ⊎-elim (λ z. absurd (not-both _ (and-both (ephemeralOf t k) (eqb (holdsOf t k - heldIn t k ss) 0) f (eq-eqb _ _ z)) e)) (λ ne. omega arith)
-      (same? (holdsOf t k - heldIn t k ss) 0)))))
+      ⊎-elim (λ z. absurd (not-both _ (and-both (ephemeralOf t k) (eqb (holdCount t k - heldIn t k ss) 0) f (eq-eqb _ _ z)) e)) (λ ne. omega arith)
+      (same? (holdCount t k - heldIn t k ss) 0)))))
       (either (leavesNone ss))
 
   release-answers : (s₁ s₂ s₃ s₄ : Slot) → answer t (call.release s₁ s₂ s₃ s₄) ≡ call.released Released (releaseOf t (fourSlots s₁ s₂ s₃ s₄) .waiters)

@@ -17,7 +17,7 @@ use Rattle.ipc_rules.specs.State.{nobody}
 use Rattle.ipc_rules.specs.Sound.{Sound}
 use Rattle.ipc_rules.specs.Opening.{holdOf, opened}
 use Rattle.ipc_rules.specs.Holds.{released, releasedAll, Freed}
-use Rattle.ipc_rules.specs.Views.{waiterOf, holdsOf, ephemeralOf, heldBy, heldIn, Steady}
+use Rattle.ipc_rules.specs.Views.{waiterOf, holdCount, ephemeralOf, heldBy, heldIn, Steady}
 use Rattle.ipc_rules.specs.declared.state.Waiter.{Waiter}
 use Rattle.ipc_rules.specs.declared.state.Table.{Table}
 use Rattle.ipc_rules.specs.declared.opening.Opening.the-variants.{Opens, Shut}
@@ -33,13 +33,13 @@ use Rattle.history.specs.Waits.{takesLast, waitsEnded, turnOf}
 -- ---- the table behind the slots xs
 record Behind (t : Table) (xs : List Slot) (u : Table) : Type 0 where
   pub steady : Steady t u
-  pub holds : (j : ℕ) → holdsOf u j ≡ holdsOf t j - heldIn t j xs
+  pub holds : (j : ℕ) → holdCount u j ≡ holdCount t j - heldIn t j xs
   pub ephemeral : (j : ℕ) → ephemeralOf u j ≡ ephemeralOf t j
-  pub waiter : (j : ℕ) → 0 < holdsOf u j → waiterOf u j ≡ waiterOf t j
+  pub waiter : (j : ℕ) → 0 < holdCount u j → waiterOf u j ≡ waiterOf t j
 
 behind-none : (t : Table) → Behind t [] t
 unfolding heldIn
-behind-none t = record { steady = steady-same t; holds = λ j. (let e : holdsOf t j ≡ holdsOf t j - 0 = omega arith in e); ephemeral = λ _. refl; waiter = λ _ _. refl }
+behind-none t = record { steady = steady-same t; holds = λ j. (let e : holdCount t j ≡ holdCount t j - 0 = omega arith in e); ephemeral = λ _. refl; waiter = λ _ _. refl }
 
 -- a slot holds what it held
 module _ (t u : Table) (a : Steady t u) where
@@ -75,8 +75,8 @@ behind-next t u xs s σ b =
 
 -- ---- one slot of the list, seen from mailbox k, on which holds are left: it wakes nobody, another, or who waits on k
 data Turn (t : Table) (k : ℕ) (xs : List Slot) (s : Slot) (w : Waiter) (r : Freed) : Type 0 where
-  nobody-yet : r .woken ≡ [] → waitsEnded t xs s ≡ 0 → takesLast t xs s k ≡ false → 0 < holdsOf (r .table) k → Turn t k xs s w r
-  another : (v : Waiter) → r .woken ≡ v ∷ [] → waitsEnded t xs s ≡ 1 → takesLast t xs s k ≡ false → 0 < holdsOf (r .table) k → Turn t k xs s w r
+  nobody-yet : r .woken ≡ [] → waitsEnded t xs s ≡ 0 → takesLast t xs s k ≡ false → 0 < holdCount (r .table) k → Turn t k xs s w r
+  another : (v : Waiter) → r .woken ≡ v ∷ [] → waitsEnded t xs s ≡ 1 → takesLast t xs s k ≡ false → 0 < holdCount (r .table) k → Turn t k xs s w r
   itself : r .woken ≡ w ∷ [] → takesLast t xs s k ≡ true → Turn t k xs s w r
 
 module _ (t u : Table) (k : ℕ) (xs : List Slot) (s : Slot) (σ : Sound u) (b : Behind t xs u) where
@@ -84,25 +84,25 @@ module _ (t u : Table) (k : ℕ) (xs : List Slot) (s : Slot) (σ : Sound u) (b :
   hold-same = sym (hold-steady t u (b .steady) s)
 
   -- it takes the last hold of a mailbox where it holds its send end and one hold is left
-  takes : (j : ℕ) → heldBy t j s ≡ 1 → holdsOf u j ≡ 1 → takesLast t xs s j ≡ true
+  takes : (j : ℕ) → heldBy t j s ≡ 1 → holdCount u j ≡ 1 → takesLast t xs s j ≡ true
   unfolding takesLast
-  takes j o e = and-both (eqb (heldBy t j s) 1) (eqb (holdsOf t j - heldIn t j xs) 1) (eq-eqb _ _ o) (eq-eqb _ _ (sym (b .holds j) ∙ e))
+  takes j o e = and-both (eqb (heldBy t j s) 1) (eqb (holdCount t j - heldIn t j xs) 1) (eq-eqb _ _ o) (eq-eqb _ _ (sym (b .holds j) ∙ e))
 
-  one-left : (j : ℕ) → takesLast t xs s j ≡ true → holdsOf u j ≡ 1
+  one-left : (j : ℕ) → takesLast t xs s j ≡ true → holdCount u j ≡ 1
   unfolding takesLast
-  one-left j e = b .holds j ∙ eqb-true _ _ (and-right (eqb (heldBy t j s) 1) (eqb (holdsOf t j - heldIn t j xs) 1) e)
+  one-left j e = b .holds j ∙ eqb-true _ _ (and-right (eqb (heldBy t j s) 1) (eqb (holdCount t j - heldIn t j xs) 1) e)
 
   takes-none : (j : ℕ) → heldBy t j s ≡ 0 → takesLast t xs s j ≡ false
   unfolding takesLast
   takes-none j o = simp (ne-eqb (heldBy t j s) 1 (λ e. omega arith))
 
   -- mailbox k has holds left, unless it takes the last
-  left : 0 < holdsOf u k → takesLast t xs s k ≡ false → 0 < holdsOf (released u s .table) k
+  left : 0 < holdCount u k → takesLast t xs s k ≡ false → 0 < holdCount (released u s .table) k
   left l n =
       let h = one-at u s k σ .holds in
       let e = held-same t u (b .steady) k s in
       let m = held-most t k s in
-      ⊎-elim (λ p. ⊎-elim (λ q. absurd (not-both _ (takes k q p) n)) (λ q. omega arith) (same? (heldBy t k s) 1)) (λ p. omega arith) (same? (holdsOf u k) 1)
+      ⊎-elim (λ p. ⊎-elim (λ q. absurd (not-both _ (takes k q p) n)) (λ q. omega arith) (same? (heldBy t k s) 1)) (λ p. omega arith) (same? (holdCount u k) 1)
 
   ended-none : holdOf u s ≡ Shut → waitsEnded t xs s ≡ 0
   unfolding waitsEnded opened
@@ -125,7 +125,7 @@ module _ (t u : Table) (k : ℕ) (xs : List Slot) (s : Slot) (σ : Sound u) (b :
   ended-one j o r =
       let l = σ .waits-held j (r .waits) (r .ephemeral) in
       let z = r .none-left in
-      let e : holdsOf u j ≡ 1 = omega arith in
+      let e : holdCount u j ≡ 1 = omega arith in
       let f : takesLast t xs s j ≡ true = takes j (held-one t j s (hold-same ∙ o)) e in
       let g : ephemeralOf t j ≡ true = sym (b .ephemeral j) ∙ r .ephemeral in
       let h : waiterOf t j .present ≡ true = sym (ap (λ (x : Waiter). x .present) (b .waiter j l)) ∙ r .waits in
@@ -141,7 +141,7 @@ module _ (t u : Table) (k : ℕ) (xs : List Slot) (s : Slot) (σ : Sound u) (b :
           let r : Reaps u k = record { none-left = omega arith; ephemeral = b .ephemeral k ∙ f; waits = ap (λ (x : Waiter). x .present) (b .waiter k (omega arith)) ∙ p } in
           ⊎-elim (λ q. n (rw (← q) r)) (λ q. not-both _ h (takes-none k (held-other t k s j (hold-same ∙ o) q))) (same? k j)
 
-  turn-at : 0 < holdsOf u k → ephemeralOf t k ≡ true → waiterOf t k .present ≡ true → Turn t k xs s (waiterOf u k) (released u s)
+  turn-at : 0 < holdCount u k → ephemeralOf t k ≡ true → waiterOf t k .present ≡ true → Turn t k xs s (waiterOf u k) (released u s)
   turn-at l f p = by (release-ways u s σ)
     where
       by : ReleaseWays u s (released u s) → Turn t k xs s (waiterOf u k) (released u s)
@@ -149,15 +149,15 @@ module _ (t u : Table) (k : ℕ) (xs : List Slot) (s : Slot) (σ : Sound u) (b :
       by (kept j o r _ _ q) = let n = takes-kept j o r f p in nobody-yet q (ended-kept j o r) n (left l n)
       by (woke j o r _ _ q) =
           ⊎-elim
-          (λ e. let z = r .none-left in let z′ : holdsOf u k - 1 ≡ 0 = rw e z in itself (rw e q) (takes k (held-one t k s (rw e (hold-same ∙ o))) (omega arith)))
+          (λ e. let z = r .none-left in let z′ : holdCount u k - 1 ≡ 0 = rw e z in itself (rw e q) (takes k (held-one t k s (rw e (hold-same ∙ o))) (omega arith)))
           (λ ne. let n = takes-none k (held-other t k s j (hold-same ∙ o) ne) in another (waiterOf u j) q (ended-one j o r) n (left l n))
           (same? k j)
 
 -- ---- the list
 -- who waits on mailbox k, ephemeral, whose holds the slots take, stands among the woken at its turn
 woken-at :
-    (t u : Table) (k : ℕ) (xs ss : List Slot) → Sound u → Behind t xs u → ephemeralOf t k ≡ true → waiterOf t k .present ≡ true → 0 < holdsOf u k →
-    holdsOf u k - heldIn t k ss ≡ 0 → getD (releasedAll u ss .woken) (turnOf t k xs ss) nobody ≡ waiterOf t k
+    (t u : Table) (k : ℕ) (xs ss : List Slot) → Sound u → Behind t xs u → ephemeralOf t k ≡ true → waiterOf t k .present ≡ true → 0 < holdCount u k →
+    holdCount u k - heldIn t k ss ≡ 0 → getD (releasedAll u ss .woken) (turnOf t k xs ss) nobody ≡ waiterOf t k
 unfolding releasedAll heldIn turnOf pick
 woken-at t u k xs [] σ b f p l z = absurd (omega arith)
 woken-at t u k xs (s ∷ ss) σ b f p l z =
@@ -171,13 +171,13 @@ woken-at t u k xs (s ∷ ss) σ b f p l z =
 
     by :
         Turn t k xs s (waiterOf u k) (released u s) →
-        (0 < holdsOf (released u s .table) k → getD (rest .woken) (turnOf t k (s ∷ xs) ss) nobody ≡ waiterOf t k) →
+        (0 < holdCount (released u s .table) k → getD (rest .woken) (turnOf t k (s ∷ xs) ss) nobody ≡ waiterOf t k) →
         getD (released u s .woken ++ rest .woken) (pick (takesLast t xs s k) 0 (waitsEnded t xs s + turnOf t k (s ∷ xs) ss)) nobody ≡ waiterOf t k
     by (nobody-yet q e n m) later = let y : 0 + turnOf t k (s ∷ xs) ss ≡ turnOf t k (s ∷ xs) ss = omega arith in rw (q, e, n, y) (later m)
     by (another v q e n m) later = let y : 1 + turnOf t k (s ∷ xs) ss ≡ suc (turnOf t k (s ∷ xs) ss) = omega arith in rw (q, e, n, y) (later m)
     by (itself q n) later = rw (q, n) (b .waiter k l)
 
 pub release-turn :
-    (t : Table) (k : ℕ) (ss : List Slot) → Sound t → ephemeralOf t k ≡ true → waiterOf t k .present ≡ true → holdsOf t k - heldIn t k ss ≡ 0 →
+    (t : Table) (k : ℕ) (ss : List Slot) → Sound t → ephemeralOf t k ≡ true → waiterOf t k .present ≡ true → holdCount t k - heldIn t k ss ≡ 0 →
     getD (releasedAll t ss .woken) (turnOf t k [] ss) nobody ≡ waiterOf t k
 release-turn t k ss σ f p z = woken-at t t k [] ss σ (behind-none t) f p (σ .waits-held k p f) z

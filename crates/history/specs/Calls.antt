@@ -3,7 +3,7 @@ use mathlib.Core.Bool.{Bool}
 use mathlib.Core.List.{List, [], _∷_}
 use Prim.Native.Nat.{ℕ}
 use lib.ListN.{getD}
-use Rattle.cap.specs.Slot.{vacant}
+use Rattle.cap.specs.Slot.{vacantSlot}
 use Rattle.cap.specs.declared.CapId.{CapId}
 use Rattle.cap.specs.declared.slot.Slot.{Slot}
 use Rattle.ipc_rules.specs.Counts.{noteAuthorityOf, noteStateOf}
@@ -68,7 +68,7 @@ fourSlots x y z v = x ∷ y ∷ z ∷ v ∷ []
 
 -- the release of the first four slots of a list, vacant past its end
 abbrev pub releasing : List Slot → Call
-releasing ss = release (getD ss 0 vacant) (getD ss 1 vacant) (getD ss 2 vacant) (getD ss 3 vacant)
+releasing ss = release (getD ss 0 vacantSlot) (getD ss 1 vacantSlot) (getD ss 2 vacantSlot) (getD ss 3 vacantSlot)
 
 unfoldable pub answer : Table → Call → Answer
 answer t (create ephemeral) = created (createOf t ephemeral .answer)

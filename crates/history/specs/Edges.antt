@@ -19,7 +19,8 @@ use Rattle.irqcap.specs.declared.Table.{Table}
 use Rattle.manifest.specs.Bind.{bindOf, bindNumber, bindValues}
 use Rattle.manifest.specs.declared.AgentEntry.{AgentEntry}
 use Rattle.manifest.specs.declared.Want.{Want}
-use Rattle.ipc_rules.specs.Make.{freshOf, sizesOf}
+use Rattle.ipc_rules.specs.State.{sizesOf}
+use Rattle.ipc_rules.specs.Make.{freshOf}
 use Rattle.ipc_rules.specs.Create.{createOf}
 use Rattle.ipc_rules.specs.Answers.{createNumber}
 
@@ -85,7 +86,7 @@ edges =
     -- "index 3, generation 171: raw 11,206,659", and back
     edge (idOf 3 171 .raw ∷ indexOf (record { raw = 11206659 }) ∷ generationOf (record { raw = 11206659 }) ∷ []) (11206659 ∷ 3 ∷ 171 ∷ [])
     -- "Raw 0 present is an id, not a vacancy": slot 0 holds it, slot 1 is vacant
-    ∷ edge (slotSeen (rawZero ∷ []) 0 ++ slotSeen (rawZero ∷ []) 1) (no.accepted ∷ 0 ∷ no.vacant ∷ 1 ∷ [])
+    ∷ edge (slotSeen (rawZero ∷ []) 0 ++ slotSeen (rawZero ∷ []) 1) (no.none ∷ 0 ∷ no.vacant ∷ 1 ∷ [])
     -- "Index 49,152 is Invalid"
     ∷ edge (classAt 49152) (classValues Invalid)
     -- "16,384 Task 0"

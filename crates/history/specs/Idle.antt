@@ -12,9 +12,7 @@ use mathlib.Core.List.{List, [], _∷_}
 use Prim.Native.Nat.{ℕ}
 use Rattle.cap.specs.Slot.{holding}
 use Rattle.cap.specs.Word.{wordOf}
-use Rattle.ipc_rules.specs.State.{nobody}
-use Rattle.ipc_rules.specs.Make.{sizesOf}
-use Rattle.ipc_rules.specs.Receive.{waiting}
+use Rattle.ipc_rules.specs.State.{nobody, waiting, sizesOf}
 use Rattle.ipc_rules.specs.declared.state.Channel.{Channel}
 use Rattle.ipc_rules.specs.declared.state.Message.{Message}
 use Rattle.ipc_rules.specs.declared.state.TaskId.{TaskId}

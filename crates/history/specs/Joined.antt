@@ -27,7 +27,7 @@ use Rattle.history.specs.World.{World, run, Reached}
 -- ---- the calls
 -- a step that is refused with a number makes none
 unfoldable pub ifAccepted : ℕ → List Call → List Call
-ifAccepted n calls = pick (eqb n no.accepted) calls []
+ifAccepted n calls = pick (eqb n no.none) calls []
 
 -- the register of one id
 abbrev pub registering : CapId → Call

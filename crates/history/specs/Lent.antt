@@ -4,18 +4,18 @@ use mathlib.Core.Path.{_≡_}
 use mathlib.Core.List.{List, map}
 use Prim.Native.Nat.{ℕ, _<_}
 use lib.ListN.{getD}
-use Rattle.cap.specs.Slot.{vacant}
+use Rattle.cap.specs.Slot.{vacantSlot}
 use Rattle.cap.specs.Word.{wordOf}
 use Rattle.cap.specs.declared.slot.Slot.{Slot}
 use Rattle.ipc_rules.specs.State.{withRefusals}
-use Rattle.lent.specs.Counts.{authorityNoted, stateNoted}
+use Rattle.ipc_rules.specs.Counts.{authorityNoted, stateNoted}
 use Rattle.lent.specs.Holds.{registerSlots}
 use Rattle.history.specs.Calls.{Call, register, noteAuthority, noteState, registered, answer}
 use Rattle.history.specs.World.{World, settled, step, Reached}
 
 -- slot records whose ids have 32 bits, as code has them
 abbrev pub Fit : List Slot → Type 0
-Fit slots = (i : ℕ) → getD slots i vacant .id .raw < 4294967296
+Fit slots = (i : ℕ) → getD slots i vacantSlot .id .raw < 4294967296
 
 -- the register of the words that stand for them
 abbrev pub lending : List Slot → Call

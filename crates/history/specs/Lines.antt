@@ -6,9 +6,8 @@ use Prim.Native.Nat.{ℕ, _<_}
 use lib.ListN.{getD}
 use Rattle.laws.specs.Refusals as no
 use Rattle.capslots.specs.Rows.{drainOf}
-use Rattle.ipc_rules.specs.State.{nobody}
+use Rattle.ipc_rules.specs.State.{nobody, waiting}
 use Rattle.ipc_rules.specs.Answers.{fourWaiterValues}
-use Rattle.ipc_rules.specs.Receive.{waiting}
 use Rattle.ipc_rules.specs.declared.state.Message.{Message}
 use Rattle.ipc_rules.specs.declared.state.TaskId.{TaskId}
 use Rattle.ipc_rules.specs.declared.state.Waiter.{Waiter}
@@ -48,8 +47,8 @@ OperationsTell =
 -- ---- a message
 -- the line shows message m: a receive as `tag a b`, a park as `1 tag a b`
 pub data ShowsMessage (m : Message) (line : List ℕ) : Type 0 where
-  receive-line : line ≡ 3 ∷ no.accepted ∷ m .tag ∷ m .a ∷ m .b ∷ [] → ShowsMessage m line
-  park-line : line ≡ 4 ∷ no.accepted ∷ 1 ∷ m .tag ∷ m .a ∷ m .b ∷ [] → ShowsMessage m line
+  receive-line : line ≡ 3 ∷ no.none ∷ m .tag ∷ m .a ∷ m .b ∷ [] → ShowsMessage m line
+  park-line : line ≡ 4 ∷ no.none ∷ 1 ∷ m .tag ∷ m .a ∷ m .b ∷ [] → ShowsMessage m line
 
 -- an operation gives a message exactly where its line shows it, from one channel or another
 pub record SomeShows (s : Logged) (o : Operation) (m : Message) : Type 0 where
@@ -67,17 +66,17 @@ GivesShown = (s : Logged) → Follows s → (o : Operation) (m : Message) → Li
 -- the line names task x, who waited on mailbox k, as `1 slot epoch`: a send and a revocation in one place, a release and a leave at the
 -- place of its turn among four
 pub data NamesTask (t : Tables) (bytes : List ℕ) (k : ℕ) (x : TaskId) (line : List ℕ) : Type 0 where
-  send-line : line ≡ 2 ∷ no.accepted ∷ 1 ∷ x .slot ∷ x .epoch ∷ [] → NamesTask t bytes k x line
-  revoke-line : line ≡ 6 ∷ no.accepted ∷ 1 ∷ x .slot ∷ x .epoch ∷ [] → NamesTask t bytes k x line
+  send-line : line ≡ 2 ∷ no.none ∷ 1 ∷ x .slot ∷ x .epoch ∷ [] → NamesTask t bytes k x line
+  revoke-line : line ≡ 6 ∷ no.none ∷ 1 ∷ x .slot ∷ x .epoch ∷ [] → NamesTask t bytes k x line
   release-line :
-      (ws : List Waiter) → line ≡ 8 ∷ no.accepted ∷ fourWaiterValues ws →
+      (ws : List Waiter) → line ≡ 8 ∷ no.none ∷ fourWaiterValues ws →
       getD ws (turnOf (t .channels) k [] (listSlots bytes 3)) nobody ≡ waiting x → NamesTask t bytes k x line
   leave-line :
-      (ws : List Waiter) → line ≡ 25 ∷ no.accepted ∷ fourWaiterValues ws →
+      (ws : List Waiter) → line ≡ 25 ∷ no.none ∷ fourWaiterValues ws →
       getD ws (turnOf (t .channels) k [] (drainOf (t .rows) (byteAt bytes 3) .slots)) nobody ≡ waiting x → NamesTask t bytes k x line
 
 -- the record is a clearing of task x, which shows how many it cleared
 pub record ClearsTask (bytes : List ℕ) (x : TaskId) (line : List ℕ) : Type 0 where
   pub task : taskAt bytes 3 ≡ x
   pub count : ℕ
-  pub shows : line ≡ 10 ∷ no.accepted ∷ count ∷ []
+  pub shows : line ≡ 10 ∷ no.none ∷ count ∷ []

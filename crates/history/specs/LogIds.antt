@@ -48,6 +48,6 @@ pub record KeepsId (s : Logged) (n : ℕ) (c : CapId) : Type 0 where
 abbrev pub LogIdsKeep : Type 0
 LogIdsKeep =
     (before : List Operation) → let s = operated beginning before in
-    (log : List ℕ) (x y : ℕ) → lineIn s (creation log) ≡ 1 ∷ no.accepted ∷ x ∷ y ∷ [] →
+    (log : List ℕ) (x y : ℕ) → lineIn s (creation log) ≡ 1 ∷ no.none ∷ x ∷ y ∷ [] →
     (later : List Operation) → lasting later ≡ true → let v = operated (operate s (creation log)) later in
     v .world .made < suc (s .world .made) + 65535 → (c : CapId) → (c .raw ≡ x) ⊎ (c .raw ≡ y) → KeepsId v (suc (s .world .made)) c

@@ -54,4 +54,4 @@ pub record GivenInLog (s : Logged) (log : List ℕ) : Type 0 where
 abbrev pub LogMessagesGiven : Type 0
 LogMessagesGiven =
     (before : List Operation) → let s = operated beginning before in
-    (log : List ℕ) → doneBy (sending log) (s .tables) .number ≡ no.accepted → GivenInLog s log
+    (log : List ℕ) → doneBy (sending log) (s .tables) .number ≡ no.none → GivenInLog s log

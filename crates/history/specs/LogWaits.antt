@@ -54,4 +54,4 @@ pub record NamedInLog (s : Logged) (log : List ℕ) : Type 0 where
 abbrev pub LogWaitsNamed : Type 0
 LogWaitsNamed =
     (before : List Operation) → let s = operated beginning before in
-    (log : List ℕ) → lineIn s (parking log) ≡ 4 ∷ no.accepted ∷ 0 ∷ [] → NamedInLog s log
+    (log : List ℕ) → lineIn s (parking log) ≡ 4 ∷ no.none ∷ 0 ∷ [] → NamedInLog s log

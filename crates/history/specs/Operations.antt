@@ -9,14 +9,14 @@ use lib.Dec.{eqb}
 use lib.ListN.{getD}
 use Rattle.laws.specs.Pick.{pick}
 use Rattle.capslots.specs.Table.{Shape}
-use Rattle.ipc_rules.specs.Make.{inRange, sizesOf}
-use Rattle.ipc_rules.specs.declared.state.Sizes.{Sizes}
+use Rattle.ipc_rules.specs.State.{sizesOf}
+use Rattle.ipc_rules.specs.Make.{inRange}
 use Rattle.logread.specs.Little.{byteAt}
 use Rattle.logread.specs.Lists.{listSlots, listWords}
 use Rattle.operations.specs.Apply.{applyOf}
 use Rattle.operations.specs.Channels.{allFresh}
 use Rattle.operations.specs.Done.{Done}
-use Rattle.operations.specs.Operands.{idAt, taskAt, messageAt}
+use Rattle.operations.specs.Operands.{idAt, taskAt, messageAt, sizesAt}
 use Rattle.operations.specs.declared.Tables.{Tables}
 use Rattle.history.specs.Calls.{Call, create, send, receive, park, queued, revoke, register, releasing, holders, clear, noteAuthority, noteState, counts}
 use Rattle.history.specs.World.{World, run, start, Reached}
@@ -69,12 +69,9 @@ unfoldable pub callsOf : Operation → Tables → List Call
 callsOf o t = getD (allCalls (o .bytes) t) (o .number) []
 
 -- ---- sequences
--- 0, new (m, e, d): the sizes, and whether it is accepted
-abbrev pub sizesAt : List ℕ → Sizes
-sizesAt log = sizesOf (byteAt log 3) (byteAt log 4) (byteAt log 5)
-
+-- 0, new (m, e, d): whether it is accepted
 abbrev pub renews : Operation → Bool
-renews o = eqb (o .number) 0 && inRange (sizesAt (o .bytes))
+renews o = eqb (o .number) 0 && inRange (sizesAt (o .bytes) 3)
 
 -- the tables of a log beside the world of their channel table
 pub record Logged : Type 0 where
@@ -83,7 +80,7 @@ pub record Logged : Type 0 where
 
 -- the world after an operation: one start afresh where it is an accepted `new`, else the run of its calls
 unfoldable pub follow : World → Operation → Tables → World
-follow w o t = pick (renews o) (start (sizesAt (o .bytes))) (run w (callsOf o t))
+follow w o t = pick (renews o) (start (sizesAt (o .bytes) 3)) (run w (callsOf o t))
 
 unfoldable pub operate : Logged → Operation → Logged
 operate s o = record { world = follow (s .world) o (s .tables); tables = doneBy o (s .tables) .tables }

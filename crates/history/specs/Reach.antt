@@ -12,14 +12,14 @@ use lib.Dec.{eqb}
 use lib.ListN.{getD, length, set}
 use Rattle.laws.specs.Pick.{pick}
 use Rattle.laws.specs.Refusals as no
-use Rattle.cap.specs.Slot.{vacant}
+use Rattle.cap.specs.Slot.{vacantSlot}
 use Rattle.cap.specs.Word.{readWord}
 use Rattle.cap.specs.declared.CapId.{CapId}
 use Rattle.cap.specs.declared.slot.Slot.{Slot}
 use Rattle.cap.specs.declared.word.WordAnswer.the-variants.{Reads}
 use Rattle.ipc_rules.specs.Holds.{registered, registeredAll, Freed, released, releasedAll}
 use Rattle.ipc_rules.specs.Receive.{otherWaits}
-use Rattle.ipc_rules.specs.Views.{queueOf, waiterOf, holdsOf, ephemeralOf, Alike, OnlyMailbox, OnlyCounts}
+use Rattle.ipc_rules.specs.Views.{queueOf, waiterOf, holdCount, ephemeralOf, Alike, OnlyMailbox, OnlyCounts}
 use Rattle.ipc_rules.specs.declared.state.Message.{Message}
 use Rattle.ipc_rules.specs.declared.state.TaskId.{TaskId}
 use Rattle.ipc_rules.specs.declared.state.Waiter.{Waiter}
@@ -56,7 +56,7 @@ abbrev pub receiveAt : Table → ℕ → Answer
 receiveAt t k = received (oldestOf (queueOf t k))
 
 abbrev pub parkAt : Table → TaskId → ℕ → Answer
-parkAt t task k = parked (parkBy task (queueOf t k) (ephemeralOf t k) (holdsOf t k) (waiterOf t k))
+parkAt t task k = parked (parkBy task (queueOf t k) (ephemeralOf t k) (holdCount t k) (waiterOf t k))
 
 abbrev pub queuedAt : Table → ℕ → Answer
 queuedAt t k = measured (Queued (length (queueOf t k)))
@@ -65,7 +65,7 @@ abbrev pub revokeAt : Table → ℕ → Answer
 revokeAt t k = revoked (Revoked (waiterOf t k))
 
 abbrev pub holdersAt : Table → ℕ → Answer
-holdersAt t k = held (Holders (holdsOf t k))
+holdersAt t k = held (Holders (holdCount t k))
 
 -- a call on channel n or on nothing: refused with BadCap, which shows no values, or answered by the mailbox where n lives; no other mailbox
 -- changes
@@ -96,4 +96,4 @@ pub record Reach (w : World) (n : ℕ) (c : CapId) : Type 0 where
   pub releases : (x : Slot) → x .id ≡ c → (before : List Slot) → let t = releasedAll (w .table) before .table in Touches w n t (released t x)
   -- and in the whole call, at any place i: what is done to other mailboxes is done with that place vacant too
   pub register : (words : List ℕ) (i : ℕ) (x : Slot) → readWord (getD words i 0) ≡ Reads x → x .id ≡ c → AlikeBut w n (register words) (register (set words i 0))
-  pub release : (slots : List Slot) (i : ℕ) → getD slots i vacant .id ≡ c → AlikeBut w n (releasing slots) (releasing (set slots i vacant))
+  pub release : (slots : List Slot) (i : ℕ) → getD slots i vacantSlot .id ≡ c → AlikeBut w n (releasing slots) (releasing (set slots i vacantSlot))

@@ -50,7 +50,7 @@ pub record Refused (w : World) (call : Call) (n : ℕ) : Type 0 where
   pub only : step w call ≡ settled w (withRefusals (w .table) (countsAfter call n (w .table .counters .refusals)))
 
 abbrev pub RefusalsCount : Type 0
-RefusalsCount = (w : World) → Reached w → (call : Call) → (numberOf (answer (w .table) call) ≡ no.accepted → ⊥) → Refused w call (numberOf (answer (w .table) call))
+RefusalsCount = (w : World) → Reached w → (call : Call) → (numberOf (answer (w .table) call) ≡ no.none → ⊥) → Refused w call (numberOf (answer (w .table) call))
 
 -- and no call invents a count: after each, refused or not, they are what its number makes them
 abbrev pub CountsTold : Type 0

@@ -25,12 +25,12 @@ use Rattle.laws.specs.Refusals as no
 use Rattle.cap.specs.Rights.{sendRight, receiveRight}
 use Rattle.cap.specs.declared.CapId.{CapId}
 use Rattle.cap.specs.declared.slot.Slot.{Slot}
-use Rattle.ipc_rules.specs.State.{nobody}
+use Rattle.ipc_rules.specs.State.{nobody, waiting}
 use Rattle.ipc_rules.specs.Opening.{openingOf, holdOf, opened}
 use Rattle.ipc_rules.specs.Answers.{sendNumber}
 use Rattle.ipc_rules.specs.Send.{sendOf}
-use Rattle.ipc_rules.specs.Receive.{sameTask, waiting}
-use Rattle.ipc_rules.specs.Views.{waiterOf, holdsOf, ephemeralOf, heldBy, heldIn}
+use Rattle.ipc_rules.specs.Receive.{sameTask}
+use Rattle.ipc_rules.specs.Views.{waiterOf, holdCount, ephemeralOf, heldBy, heldIn}
 use Rattle.ipc_rules.specs.declared.state.Channel.{Channel}
 use Rattle.ipc_rules.specs.declared.state.TaskId.{TaskId}
 use Rattle.ipc_rules.specs.declared.state.Message.{Message}
@@ -56,13 +56,13 @@ pub record Waits (w : World) (n k : ℕ) (x : TaskId) : Type 0 where
 -- whether a call ends the wait of x on channel n in mailbox k
 unfoldable pub ends : World → ℕ → ℕ → TaskId → Call → Bool
 ends w n k x (create b) = false
-ends w n k x (send c m) = on w n c sendRight && eqb (sendNumber (sendOf (w .table) c m .answer)) no.accepted
+ends w n k x (send c m) = on w n c sendRight && eqb (sendNumber (sendOf (w .table) c m .answer)) no.none
 ends w n k x (receive c) = false
 ends w n k x (park c y) = false
 ends w n k x (queued c) = false
 ends w n k x (revoke c) = onAny w n c
 ends w n k x (register words) = false
-ends w n k x (release s₁ s₂ s₃ s₄) = ephemeralOf (w .table) k && eqb (holdsOf (w .table) k - heldIn (w .table) k (fourSlots s₁ s₂ s₃ s₄)) 0
+ends w n k x (release s₁ s₂ s₃ s₄) = ephemeralOf (w .table) k && eqb (holdCount (w .table) k - heldIn (w .table) k (fourSlots s₁ s₂ s₃ s₄)) 0
 ends w n k x (holders c) = false
 ends w n k x (clear y) = sameTask x y
 ends w n k x noteAuthority = false
@@ -72,7 +72,7 @@ ends w n k x counts = false
 -- ---- the place in a release's answer: "Waiters are answered in list order, from the first place"
 -- slot s, released behind the slots xs, takes the last send hold of mailbox k
 unfoldable pub takesLast : Table → List Slot → Slot → ℕ → Bool
-takesLast t xs s k = eqb (heldBy t k s) 1 && eqb (holdsOf t k - heldIn t k xs) 1
+takesLast t xs s k = eqb (heldBy t k s) 1 && eqb (holdCount t k - heldIn t k xs) 1
 
 -- how many waits it ends, 1 or 0: that hold was the last of an ephemeral mailbox on which a task waits
 unfoldable pub waitsEnded : Table → List Slot → Slot → ℕ

@@ -6,7 +6,7 @@ use Prim.Native.Nat.{ℕ, _+_, _≤_, _<_}
 use native.Mathlib.Numerals.{add-one}
 use lib.ListN.{length, getD, drop, drop-of-length-le}
 use lib.Seq.{drop-cons}
-use Rattle.cap.specs.Slot.{vacant}
+use Rattle.cap.specs.Slot.{vacantSlot}
 use Rattle.cap.specs.declared.slot.Slot.{Slot}
 use Rattle.ipc_rules.specs.Sound.{Sound}
 use Rattle.ipc_rules.specs.Holds.{registered, registeredAll}
@@ -20,12 +20,12 @@ pub record Registers (t₀ : Table) (xs : List Slot) (n : ℕ) (t : Table) : Typ
 pub none-yet : (t : Table) (xs : List Slot) → Sound t → Registers t xs 0 t
 none-yet t xs s = record { sound = s; same = refl }
 
-pub turn : (t₀ : Table) (xs : List Slot) (n : ℕ) (t t′ : Table) (x : Slot) → n < length xs → x ≡ getD xs n vacant → t′ ≡ registered t x → Registers t₀ xs n t → Registers t₀ xs (n + 1) t′
+pub turn : (t₀ : Table) (xs : List Slot) (n : ℕ) (t t′ : Table) (x : Slot) → n < length xs → x ≡ getD xs n vacantSlot → t′ ≡ registered t x → Registers t₀ xs n t → Registers t₀ xs (n + 1) t′
 unfolding registeredAll
 turn t₀ xs n t t′ x l e h r =
     record {
       sound = rw h (registered-kept t x (r .sound));
-      same = rw (h, e, add-one n) (rw (drop-cons xs n vacant l) at (r .same));
+      same = rw (h, e, add-one n) (rw (drop-cons xs n vacantSlot l) at (r .same));
     }
 
 pub done : (t₀ : Table) (xs : List Slot) (n : ℕ) (t : Table) → length xs ≤ n → Registers t₀ xs n t → t ≡ registeredAll t₀ xs

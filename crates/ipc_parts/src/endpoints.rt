@@ -7,7 +7,7 @@ use ipc_rules::state::Endpoint;
 pub fn killed(mut ep: Endpoint, k: usize) -> Endpoint
     ensures { λ r. ⌜ r ≡ killedOf k ep ⌝ }
 {
-    if ep.live & (ep.mailbox as usize == k) {
+    if ep.is_live() & (ep.mailbox as usize == k) {
         ep.live = false;
         return ep;
     }

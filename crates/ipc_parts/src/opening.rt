@@ -13,7 +13,7 @@ pub fn open(below: bool, ep: Endpoint, cap: CapId, need: CapRights) -> Opening
     if !below {
         return Opening::Shut;
     }
-    if !ep.live {
+    if !ep.is_live() {
         return Opening::Shut;
     }
     if ep.generation != cap.generation() {
@@ -43,7 +43,7 @@ pub fn open_any(below: bool, ep: Endpoint, cap: CapId) -> Opening
     if !below {
         return Opening::Shut;
     }
-    if !ep.live {
+    if !ep.is_live() {
         return Opening::Shut;
     }
     if ep.generation != cap.generation() {

@@ -6,11 +6,10 @@ use Rattle.laws.specs.Pick.{pick}
 use Rattle.laws.specs.Every.{count}
 use Rattle.laws.proofs.Cases.{all-pick, not-both}
 use Rattle.laws.proofs.Lists.{all-map}
-use Rattle.ipc_rules.specs.State.{freshMailbox, nobody, mailboxAt, mailboxLive, messageAt, withWaiter}
-use Rattle.ipc_rules.specs.Receive.{waiting}
+use Rattle.ipc_rules.specs.State.{freshMailbox, nobody, mailboxAt, mailboxLive, messageIn, withWaiter, waiting}
 use Rattle.ipc_rules.specs.Waiters.{waitsOn, withoutWaiter, clearOf}
 use Rattle.ring.specs.Ring.{contents}
-use Rattle.ipc_rules.specs.Views.{queueOf, waiterOf, holdsOf, ephemeralOf, Steady}
+use Rattle.ipc_rules.specs.Views.{queueOf, waiterOf, holdCount, ephemeralOf, Steady}
 use Rattle.ipc_rules.specs.declared.state.Mailbox.{Mailbox}
 use Rattle.ipc_rules.specs.declared.state.TaskId.{TaskId}
 use Rattle.ipc_rules.specs.declared.state.Table.{Table}
@@ -24,7 +23,7 @@ pub record Clears (t : Table) (task : TaskId) (r : Clearing) : Type 0 where
   pub gone : (k : ℕ) → waiterOf t k ≡ waiting task → waiterOf (r .table) k ≡ nobody
   pub stays : (k : ℕ) → (waiterOf t k ≡ waiting task → ⊥) → waiterOf (r .table) k ≡ waiterOf t k
   pub queue : (k : ℕ) → queueOf (r .table) k ≡ queueOf t k
-  pub holds : (k : ℕ) → holdsOf (r .table) k ≡ holdsOf t k
+  pub holds : (k : ℕ) → holdCount (r .table) k ≡ holdCount t k
   pub live : (k : ℕ) → mailboxLive (r .table) k ≡ mailboxLive t k
   pub ephemeral : (k : ℕ) → ephemeralOf (r .table) k ≡ ephemeralOf t k
   pub steady : Steady t (r .table)
@@ -45,7 +44,7 @@ module _ (t : Table) (task : TaskId) where
 
   same-queue : (k : ℕ) → queueOf u k ≡ queueOf t k
   unfolding queueOf clearOf
-  same-queue k = part (λ b. contents (messageAt t k) (t .sizes .depth) (b .ring)) (λ _. refl) k
+  same-queue k = part (λ b. contents (messageIn t k) (t .sizes .depth) (b .ring)) (λ _. refl) k
 
   gone : (k : ℕ) → waiterOf t k ≡ waiting task → waiterOf u k ≡ nobody
   unfolding withoutWaiter

@@ -5,7 +5,7 @@ use mathlib.Core.List.{[]}
 use Prim.Native.Nat.{ℕ, _+_}
 use native.Mathlib.Omega.{arith}
 use lib.Seq.{getD-set-other}
-use Rattle.laws.specs.declared.Place.the-variants.{At, Nowhere}
+use Rattle.laws.specs.declared.Found.the-variants.{At, Nowhere}
 use Rattle.laws.proofs.Cases.{all-found, not-both}
 use Rattle.cap.specs.Id.{idOf}
 use Rattle.cap.specs.declared.CapId.{CapId}
@@ -15,7 +15,7 @@ use Rattle.ipc_rules.specs.State.{freshMailbox, nobody, mailboxAt, mailb
 use Rattle.ipc_rules.specs.Sound.{Sound}
 use Rattle.ipc_rules.specs.Opening.{openingOf}
 use Rattle.ipc_rules.specs.Create.{freeMailbox, freeEndpoint, withChannel, createOf}
-use Rattle.ipc_rules.specs.Views.{queueOf, waiterOf, holdsOf, ephemeralOf, Alike}
+use Rattle.ipc_rules.specs.Views.{queueOf, waiterOf, holdCount, ephemeralOf, Alike}
 use Rattle.ipc_rules.specs.declared.state.Mailbox.{Mailbox}
 use Rattle.ipc_rules.specs.declared.state.Table.{Table}
 use Rattle.ipc_rules.specs.declared.answers.Creation.{Creation}
@@ -36,7 +36,7 @@ pub record Creates (t : Table) (ephemeral : Bool) (k s r : ℕ) (c : Creation) :
   pub kind : ephemeralOf (c .table) k ≡ ephemeral
   pub queue : queueOf (c .table) k ≡ []
   pub waiter : waiterOf (c .table) k ≡ nobody
-  pub holds : holdsOf (c .table) k ≡ 0
+  pub holds : holdCount (c .table) k ≡ 0
   pub openings : NewOpenings t k s r (c .table)
   pub others : (j : ℕ) → (j ≡ k → ⊥) → Alike t (c .table) j
   pub next : c .table .counters .«next_gen» ≡ nextGeneration (t .counters .«next_gen»)

@@ -10,13 +10,13 @@ use Rattle.laws.proofs.Cases.{all-pick}
 use Rattle.laws.proofs.Every.{and-left, and-right}
 use Rattle.cap.specs.Rights.{receiveRight}
 use Rattle.cap.specs.declared.CapId.{CapId}
-use Rattle.ipc_rules.specs.State.{mailboxAt, mailboxLive, messageAt, withWaiter}
+use Rattle.ipc_rules.specs.State.{mailboxAt, mailboxLive, messageIn, withWaiter, waiting}
 use Rattle.ipc_rules.specs.Sound.{Sound}
 use Rattle.ipc_rules.specs.Counts.{authorityRaised, stateRaised}
 use Rattle.ipc_rules.specs.Opening.{openingOf}
-use Rattle.ipc_rules.specs.Receive.{parkOf, oldest, otherWaits, waiting, parkedIn}
+use Rattle.ipc_rules.specs.Receive.{parkOf, oldest, otherWaits, parkedIn}
 use Rattle.ring.specs.Ring.{contents}
-use Rattle.ipc_rules.specs.Views.{queueOf, waiterOf, holdsOf, ephemeralOf, Alike, Steady, OnlyMailbox}
+use Rattle.ipc_rules.specs.Views.{queueOf, waiterOf, holdCount, ephemeralOf, Alike, Steady, OnlyMailbox}
 use Rattle.ipc_rules.specs.declared.state.Mailbox.{Mailbox}
 use Rattle.ipc_rules.specs.declared.state.Message.{Message}
 use Rattle.ipc_rules.specs.declared.state.TaskId.{TaskId}
@@ -33,14 +33,14 @@ use Rattle.ipc_rules.proofs.Changes.{queue-none, alike-same, steady-sam
 -- mailbox k is one to wait on: no message is there, and where it is ephemeral a send hold is left
 pub record MayWait (t : Table) (k : ℕ) : Type 0 where
   pub empty : queueOf t k ≡ []
-  pub held : ephemeralOf t k ≡ true → 0 < holdsOf t k
+  pub held : ephemeralOf t k ≡ true → 0 < holdCount t k
 
 -- the task waits on mailbox k, where none waited or it did already
 pub record Parks (t : Table) (k : ℕ) (task : TaskId) (u : Table) : Type 0 where
   pub free : waiterOf t k .present ≡ true → waiterOf t k ≡ waiting task
   pub waiter : waiterOf u k ≡ waiting task
   pub queue : queueOf u k ≡ queueOf t k
-  pub holds : holdsOf u k ≡ holdsOf t k
+  pub holds : holdCount u k ≡ holdCount t k
   pub live : mailboxLive u k ≡ mailboxLive t k
   pub ephemeral : ephemeralOf u k ≡ ephemeralOf t k
   pub rest : OnlyMailbox t u k
@@ -49,7 +49,7 @@ pub record Parks (t : Table) (k : ℕ) (task : TaskId) (u : Table) : Type 0 wher
 pub data ParkWays (t : Table) (c : CapId) (task : TaskId) (r : Parking) : Type 0 where
   bad-cap : openingOf t c receiveRight ≡ Shut → r ≡ record { answer = park.the-variants.BadCap; table = authorityRaised t } → ParkWays t c task r
   given : (k : ℕ) (m : Message) → openingOf t c receiveRight ≡ Opens k → r .answer ≡ park.the-variants.Given m → Gives t k m (r .table) → ParkWays t c task r
-  cancelled : (k : ℕ) → openingOf t c receiveRight ≡ Opens k → queueOf t k ≡ [] → ephemeralOf t k ≡ true → holdsOf t k ≡ 0 →
+  cancelled : (k : ℕ) → openingOf t c receiveRight ≡ Opens k → queueOf t k ≡ [] → ephemeralOf t k ≡ true → holdCount t k ≡ 0 →
       r ≡ record { answer = park.the-variants.Cancelled; table = t } → ParkWays t c task r
   busy : (k : ℕ) → openingOf t c receiveRight ≡ Opens k → MayWait t k → waiterOf t k .present ≡ true → (waiterOf t k ≡ waiting task → ⊥) →
       r ≡ record { answer = park.the-variants.Busy; table = stateRaised t } → ParkWays t c task r
@@ -65,7 +65,7 @@ module _ (t : Table) (k : ℕ) (task : TaskId) (s : Sound t) (l : mailboxLive t 
 
   same-queue : queueOf (parkedIn t k task) k ≡ queueOf t k
   unfolding queueOf
-  same-queue = ap (λ (x : Mailbox). contents (messageAt t k) (t .sizes .depth) (x .ring)) with-task
+  same-queue = ap (λ (x : Mailbox). contents (messageIn t k) (t .sizes .depth) (x .ring)) with-task
 
   parks : otherWaits (b .waiter) task ≡ false → Parks t k task (parkedIn t k task)
   parks h =
@@ -86,8 +86,8 @@ park-ways t c task s =
     let l = opens-live t c receiveRight k s o in
     all-pick (ParkWays t c task) _ _ _ (λ h. given k (oldest t k) o refl (taken-gives t k s l (ltb-true _ _ h))) (λ h.
     let none : queueOf t k ≡ [] = queue-none t k (let e : mailboxAt t k .ring .len ≤ 0 = ltb-false 0 (mailboxAt t k .ring .len) h in omega arith) in
-    all-pick (ParkWays t c task) _ _ _ (λ a. cancelled k o none (and-left (ephemeralOf t k) (eqb (holdsOf t k) 0) a) (eqb-true _ _ (and-right (ephemeralOf t k) (eqb (holdsOf t k) 0) a)) refl) (λ a.
-    let free : MayWait t k = record { empty = none; held = uncancelled (ephemeralOf t k) (holdsOf t k) a } in
+    all-pick (ParkWays t c task) _ _ _ (λ a. cancelled k o none (and-left (ephemeralOf t k) (eqb (holdCount t k) 0) a) (eqb-true _ _ (and-right (ephemeralOf t k) (eqb (holdCount t k) 0) a)) refl) (λ a.
+    let free : MayWait t k = record { empty = none; held = uncancelled (ephemeralOf t k) (holdCount t k) a } in
     all-pick (ParkWays t c task) _ _ _ (λ w. busy k o free (other-waits (waiterOf t k) task w .0) (other-waits (waiterOf t k) task w .1) refl) (λ w.
     parked k o free refl (parks t k task s l w)))))
 

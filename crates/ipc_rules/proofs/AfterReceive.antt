@@ -2,7 +2,7 @@
 use mathlib.Core.Path.{_≡_, refl, sym, ap, _∙_}
 use mathlib.Core.Bool.{true}
 use mathlib.Core.List.{[], _∷_}
-use Prim.Native.Nat.{ℕ, suc, _-_, _<_}
+use Prim.Native.Nat.{ℕ, _-_, _<_}
 use native.Mathlib.Omega.{arith}
 use borrow.Author.Tests.{eqb-true, eqb-false}
 use Rattle.laws.proofs.Cases.{all-pick}
@@ -10,12 +10,12 @@ use Rattle.cap.specs.Rights.{receiveRight}
 use Rattle.cap.specs.declared.CapId.{CapId}
 use Rattle.ring.specs.Ring.{contents}
 use Rattle.ring.proofs.Rings.{contents-taken}
-use Rattle.ipc_rules.specs.State.{mailboxAt, mailboxLive, messageAt}
+use Rattle.ipc_rules.specs.State.{mailboxAt, mailboxLive, messageIn}
 use Rattle.ipc_rules.specs.Sound.{Sound}
 use Rattle.ipc_rules.specs.Counts.{authorityRaised}
 use Rattle.ipc_rules.specs.Opening.{openingOf}
 use Rattle.ipc_rules.specs.Receive.{recvOf, drained, oldest, takenFrom}
-use Rattle.ipc_rules.specs.Views.{queueOf, waiterOf, holdsOf, ephemeralOf, Alike, Steady, OnlyMailbox}
+use Rattle.ipc_rules.specs.Views.{queueOf, waiterOf, holdCount, ephemeralOf, Alike, Steady, OnlyMailbox}
 use Rattle.ipc_rules.specs.declared.state.Mailbox.{Mailbox}
 use Rattle.ipc_rules.specs.declared.state.Message.{Message}
 use Rattle.ipc_rules.specs.declared.state.Table.{Table}
@@ -29,7 +29,7 @@ use Rattle.ipc_rules.proofs.Changes.{queue-none, alike-same, steady-sam
 pub record Gives (t : Table) (k : ℕ) (m : Message) (u : Table) : Type 0 where
   pub queue : queueOf t k ≡ m ∷ queueOf u k
   pub waiter : waiterOf u k ≡ waiterOf t k
-  pub holds : holdsOf u k ≡ holdsOf t k
+  pub holds : holdCount u k ≡ holdCount t k
   pub live : mailboxLive u k ≡ mailboxLive t k
   pub ephemeral : ephemeralOf u k ≡ ephemeralOf t k
   pub rest : OnlyMailbox t u k
@@ -44,8 +44,8 @@ module _ (t : Table) (k : ℕ) (s : Sound t) (l : mailboxLive t k ≡ true) wher
   first : 0 < b .ring .len → queueOf t k ≡ oldest t k ∷ queueOf (takenFrom t k) k
   unfolding queueOf
   first some =
-      contents-taken (messageAt t k) (t .sizes .depth) (b .ring) some
-      ∙ ap (λ (x : Mailbox). oldest t k ∷ contents (messageAt t k) (t .sizes .depth) (x .ring)) (sym without)
+      contents-taken (messageIn t k) (t .sizes .depth) (b .ring) some
+      ∙ ap (λ (x : Mailbox). oldest t k ∷ contents (messageIn t k) (t .sizes .depth) (x .ring)) (sym without)
 
   pub taken-gives : 0 < b .ring .len → Gives t k (oldest t k) (takenFrom t k)
   taken-gives some =

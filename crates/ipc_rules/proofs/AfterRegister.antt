@@ -8,13 +8,13 @@ use Rattle.laws.proofs.Cases.{all-pick}
 use Rattle.cap.specs.Rights.{sendRight}
 use Rattle.cap.specs.Word.{wordsRead, slotsOf}
 use Rattle.cap.specs.declared.slot.Slot.{Slot}
-use Rattle.ipc_rules.specs.State.{mailboxAt, mailboxLive, messageAt, withMailbox}
+use Rattle.ipc_rules.specs.State.{mailboxAt, mailboxLive, messageIn, withMailbox}
 use Rattle.ipc_rules.specs.Sound.{Sound}
 use Rattle.ipc_rules.specs.Counts.{raised}
 use Rattle.ipc_rules.specs.Opening.{holdOf}
 use Rattle.ipc_rules.specs.Holds.{more, registered, registeredAll, registerOf}
 use Rattle.ring.specs.Ring.{contents}
-use Rattle.ipc_rules.specs.Views.{queueOf, waiterOf, holdsOf, ephemeralOf, heldBy, heldIn, raisedBy, Alike, Steady, OnlyMailbox}
+use Rattle.ipc_rules.specs.Views.{queueOf, waiterOf, holdCount, ephemeralOf, heldBy, heldIn, raisedBy, Alike, Steady, OnlyMailbox}
 use Rattle.ipc_rules.specs.declared.state.Mailbox.{Mailbox}
 use Rattle.ipc_rules.specs.declared.state.Table.{Table}
 use Rattle.ipc_rules.specs.declared.answers.Registering.{Registering}
@@ -28,7 +28,7 @@ use Rattle.ipc_rules.proofs.Changes.{alike-same, steady-same, steady-th
 
 -- mailbox k has one hold more, stopping at 4,294,967,295
 pub record Registers (t : Table) (k : ℕ) (u : Table) : Type 0 where
-  pub holds : holdsOf u k ≡ raised (holdsOf t k)
+  pub holds : holdCount u k ≡ raised (holdCount t k)
   pub queue : queueOf u k ≡ queueOf t k
   pub waiter : waiterOf u k ≡ waiterOf t k
   pub live : mailboxLive u k ≡ mailboxLive t k
@@ -49,7 +49,7 @@ module _ (t : Table) (k : ℕ) (s : Sound t) (l : mailboxLive t k ≡ true) wher
 
   same-queue : queueOf u k ≡ queueOf t k
   unfolding queueOf
-  same-queue = ap (λ (b : Mailbox). contents (messageAt t k) (t .sizes .depth) (b .ring)) box
+  same-queue = ap (λ (b : Mailbox). contents (messageIn t k) (t .sizes .depth) (b .ring)) box
 
   registers : Registers t k u
   registers =
@@ -71,7 +71,7 @@ register-ways t x s =
 -- ---- every mailbox
 -- what registering leaves of mailbox k, and how its holds go up, by n
 pub record RegisteredAt (t u : Table) (k n : ℕ) : Type 0 where
-  pub holds : holdsOf u k ≡ raisedBy n (holdsOf t k)
+  pub holds : holdCount u k ≡ raisedBy n (holdCount t k)
   pub queue : queueOf u k ≡ queueOf t k
   pub waiter : waiterOf u k ≡ waiterOf t k
   pub live : mailboxLive u k ≡ mailboxLive t k
@@ -94,7 +94,7 @@ module _ {t u : Table} where
   at-then : {v : Table} (k a b : ℕ) → RegisteredAt t u k a → RegisteredAt u v k b → RegisteredAt t v k (a + b)
   at-then k a b p q =
       record {
-        holds = q .holds ∙ ap (raisedBy b) (p .holds) ∙ raised-then a b (holdsOf t k);
+        holds = q .holds ∙ ap (raisedBy b) (p .holds) ∙ raised-then a b (holdCount t k);
         queue = q .queue ∙ p .queue;
         waiter = q .waiter ∙ p .waiter;
         live = q .live ∙ p .live;

@@ -8,12 +8,12 @@ use lib.Dec.{eqb}
 use Rattle.laws.proofs.Cases.{all-pick, not-both}
 use Rattle.cap.specs.Rights.{sendRight}
 use Rattle.cap.specs.declared.slot.Slot.{Slot}
-use Rattle.ipc_rules.specs.State.{nobody, mailboxAt, mailboxLive, messageAt, withMailbox, withWaiter}
+use Rattle.ipc_rules.specs.State.{nobody, mailboxAt, mailboxLive, messageIn, withMailbox, withWaiter}
 use Rattle.ipc_rules.specs.Sound.{Sound}
 use Rattle.ipc_rules.specs.Opening.{holdOf}
 use Rattle.ipc_rules.specs.Holds.{fewer, reaps, released, Freed}
 use Rattle.ring.specs.Ring.{contents}
-use Rattle.ipc_rules.specs.Views.{queueOf, waiterOf, holdsOf, ephemeralOf, Alike, Steady, OnlyMailbox}
+use Rattle.ipc_rules.specs.Views.{queueOf, waiterOf, holdCount, ephemeralOf, Alike, Steady, OnlyMailbox}
 use Rattle.ipc_rules.specs.declared.state.Mailbox.{Mailbox}
 use Rattle.ipc_rules.specs.declared.state.Waiter.{Waiter}
 use Rattle.ipc_rules.specs.declared.state.Table.{Table}
@@ -24,13 +24,13 @@ use Rattle.ipc_rules.proofs.Changes.{alike-same, steady-same, mailbox-a
 
 -- one hold less leaves none, mailbox k is ephemeral, and a task waits on it
 pub record Reaps (t : Table) (k : ℕ) : Type 0 where
-  pub none-left : holdsOf t k - 1 ≡ 0
+  pub none-left : holdCount t k - 1 ≡ 0
   pub ephemeral : ephemeralOf t k ≡ true
   pub waits : waiterOf t k .present ≡ true
 
 -- mailbox k has one hold less, not below 0
 pub record Releases (t : Table) (k : ℕ) (u : Table) : Type 0 where
-  pub holds : holdsOf u k ≡ holdsOf t k - 1
+  pub holds : holdCount u k ≡ holdCount t k - 1
   pub queue : queueOf u k ≡ queueOf t k
   pub live : mailboxLive u k ≡ mailboxLive t k
   pub ephemeral : ephemeralOf u k ≡ ephemeralOf t k
@@ -44,7 +44,7 @@ pub data ReleaseWays (t : Table) (x : Slot) (r : Freed) : Type 0 where
 
 reaps-is : (t : Table) (k : ℕ) → reaps (fewer (mailboxAt t k)) ≡ true → Reaps t k
 reaps-is t k h =
-    let p = and-three (eqb (holdsOf t k - 1) 0) (ephemeralOf t k) (waiterOf t k .present) h in
+    let p = and-three (eqb (holdCount t k - 1) 0) (ephemeralOf t k) (waiterOf t k .present) h in
     record { none-left = eqb-true _ _ (p .0); ephemeral = p .1; waits = p .2 }
 
 is-reaps : (t : Table) (k : ℕ) → Reaps t k → reaps (fewer (mailboxAt t k)) ≡ true
@@ -60,7 +60,7 @@ module _ (t : Table) (k : ℕ) (w : Waiter) (s : Sound t) (l : mailboxLive t k �
 
   same-queue : queueOf (withMailbox t k b) k ≡ queueOf t k
   unfolding queueOf
-  same-queue = ap (λ (x : Mailbox). contents (messageAt t k) (t .sizes .depth) (x .ring)) box
+  same-queue = ap (λ (x : Mailbox). contents (messageIn t k) (t .sizes .depth) (x .ring)) box
 
   releases : Releases t k (withMailbox t k b)
   releases =

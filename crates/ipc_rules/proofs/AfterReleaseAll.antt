@@ -14,7 +14,7 @@ use Rattle.ipc_rules.specs.State.{nobody, mailboxLive}
 use Rattle.ipc_rules.specs.Sound.{Sound}
 use Rattle.ipc_rules.specs.Opening.{holdOf}
 use Rattle.ipc_rules.specs.Holds.{released, releasedAll, Freed}
-use Rattle.ipc_rules.specs.Views.{queueOf, waiterOf, holdsOf, ephemeralOf, heldBy, heldIn, Alike, Steady}
+use Rattle.ipc_rules.specs.Views.{queueOf, waiterOf, holdCount, ephemeralOf, heldBy, heldIn, Alike, Steady}
 use Rattle.ipc_rules.specs.declared.state.Waiter.{Waiter}
 use Rattle.ipc_rules.specs.declared.state.Table.{Table}
 use Rattle.ipc_rules.specs.declared.opening.Opening.the-variants.{Opens}
@@ -26,14 +26,14 @@ use Rattle.ipc_rules.proofs.AfterRelease.{ReleaseWays, skipped, kept, w
 
 -- what a release leaves of mailbox k, and how its holds go down, by n
 pub record ReleasedAt (t : Table) (k n : ℕ) (r : Freed) : Type 0 where
-  pub holds : holdsOf (r .table) k ≡ holdsOf t k - n
+  pub holds : holdCount (r .table) k ≡ holdCount t k - n
   pub queue : queueOf (r .table) k ≡ queueOf t k
   pub live : mailboxLive (r .table) k ≡ mailboxLive t k
   pub ephemeral : ephemeralOf (r .table) k ≡ ephemeralOf t k
   -- the waiter stays where holds are left or the mailbox is not ephemeral, and is woken otherwise
-  pub stays : (waiterOf t k .present ≡ true → ephemeralOf t k ≡ true → 0 < holdsOf (r .table) k) → waiterOf (r .table) k ≡ waiterOf t k
-  pub gone : waiterOf t k .present ≡ true → ephemeralOf t k ≡ true → holdsOf (r .table) k ≡ 0 → waiterOf (r .table) k ≡ nobody
-  pub woken : waiterOf t k .present ≡ true → ephemeralOf t k ≡ true → holdsOf (r .table) k ≡ 0 → List·Memᴰ (waiterOf t k) (r .woken)
+  pub stays : (waiterOf t k .present ≡ true → ephemeralOf t k ≡ true → 0 < holdCount (r .table) k) → waiterOf (r .table) k ≡ waiterOf t k
+  pub gone : waiterOf t k .present ≡ true → ephemeralOf t k ≡ true → holdCount (r .table) k ≡ 0 → waiterOf (r .table) k ≡ nobody
+  pub woken : waiterOf t k .present ≡ true → ephemeralOf t k ≡ true → holdCount (r .table) k ≡ 0 → List·Memᴰ (waiterOf t k) (r .woken)
 
 -- w waited on an ephemeral mailbox that is left without holds
 pub record Woken (t : Table) (r : Freed) (w : Waiter) : Type 0 where
@@ -41,7 +41,7 @@ pub record Woken (t : Table) (r : Freed) (w : Waiter) : Type 0 where
   pub was : w ≡ waiterOf t box
   pub waits : w .present ≡ true
   pub ephemeral : ephemeralOf t box ≡ true
-  pub none-left : holdsOf (r .table) box ≡ 0
+  pub none-left : holdCount (r .table) box ≡ 0
   pub gone : waiterOf (r .table) box ≡ nobody
 
 pub record ReleasedIn (t : Table) (xs : List Slot) (r : Freed) : Type 0 where
@@ -53,7 +53,7 @@ pub record ReleasedIn (t : Table) (xs : List Slot) (r : Freed) : Type 0 where
 
 -- ---- one slot, seen from mailbox k
 record Reaped (t : Table) (k : ℕ) (r : Freed) : Type 0 where
-  pub none-left : holdsOf (r .table) k ≡ 0
+  pub none-left : holdCount (r .table) k ≡ 0
   pub ephemeral : ephemeralOf t k ≡ true
   pub waits : waiterOf t k .present ≡ true
   pub gone : waiterOf (r .table) k ≡ nobody
@@ -64,7 +64,7 @@ abbrev StaysOr : Table → ℕ → Freed → Type 0
 StaysOr t k r = (waiterOf (r .table) k ≡ waiterOf t k) ⊎ Reaped t k r
 
 record OneAt (t : Table) (k n : ℕ) (r : Freed) : Type 0 where
-  pub holds : holdsOf (r .table) k ≡ holdsOf t k - n
+  pub holds : holdCount (r .table) k ≡ holdCount t k - n
   pub queue : queueOf (r .table) k ≡ queueOf t k
   pub live : mailboxLive (r .table) k ≡ mailboxLive t k
   pub ephemeral : ephemeralOf (r .table) k ≡ ephemeralOf t k
@@ -72,7 +72,7 @@ record OneAt (t : Table) (k n : ℕ) (r : Freed) : Type 0 where
 
 at-other : {t : Table} {k : ℕ} {r : Freed} → Alike t (r .table) k → OneAt t k 0 r
 at-other {t} {k} a =
-    let e : holdsOf t k ≡ holdsOf t k - 0 = omega arith in
+    let e : holdCount t k ≡ holdCount t k - 0 = omega arith in
     record { holds = a .holds ∙ e; queue = a .queue; live = a .live; ephemeral = a .ephemeral; waiter = inl (a .waiter) }
 
 one-at : (t : Table) (x : Slot) (k : ℕ) (r : Freed) → ReleaseWays t x r → OneAt t k (heldBy t k x) r
@@ -114,15 +114,15 @@ module _ (t : Table) (r rest : Freed) where
         woken = λ w e z. by-woken w e z (p .waiter);
       }
     where
-      by-stays : (waiterOf t k .present ≡ true → ephemeralOf t k ≡ true → 0 < holdsOf (rest .table) k) → StaysOr t k r → waiterOf (rest .table) k ≡ waiterOf t k
+      by-stays : (waiterOf t k .present ≡ true → ephemeralOf t k ≡ true → 0 < holdCount (rest .table) k) → StaysOr t k r → waiterOf (rest .table) k ≡ waiterOf t k
       by-stays h (inl e) = q .stays (λ w f. h (rw (← e) w) (rw (← p .ephemeral) f)) ∙ e
       by-stays h (inr x) = let l = h (x .waits) (x .ephemeral) in let z = x .none-left in let z′ = q .holds in absurd (omega arith)
 
-      by-gone : waiterOf t k .present ≡ true → ephemeralOf t k ≡ true → holdsOf (rest .table) k ≡ 0 → StaysOr t k r → waiterOf (rest .table) k ≡ nobody
+      by-gone : waiterOf t k .present ≡ true → ephemeralOf t k ≡ true → holdCount (rest .table) k ≡ 0 → StaysOr t k r → waiterOf (rest .table) k ≡ nobody
       by-gone w f z (inl e) = q .gone (rw e w) (rw (p .ephemeral) f) z
       by-gone w f z (inr x) = q .stays (λ w′ _. nobody-waits (x .gone) w′) ∙ x .gone
 
-      by-woken : waiterOf t k .present ≡ true → ephemeralOf t k ≡ true → holdsOf (rest .table) k ≡ 0 → StaysOr t k r → List·Memᴰ (waiterOf t k) (r .woken ++ rest .woken)
+      by-woken : waiterOf t k .present ≡ true → ephemeralOf t k ≡ true → holdCount (rest .table) k ≡ 0 → StaysOr t k r → List·Memᴰ (waiterOf t k) (r .woken ++ rest .woken)
       by-woken w f z (inl e) = Memᴰ·append-right (r .woken) (Memᴰ·cast (sym e) (q .woken (rw e w) (rw (p .ephemeral) f) z))
       by-woken w f z (inr x) = Memᴰ·append-left (rest .woken) (x .woken)
 
@@ -160,7 +160,7 @@ pub released-in : (t : Table) (xs : List Slot) → Sound t → ReleasedIn t xs (
 unfolding releasedAll heldIn
 released-in t [] s =
     record {
-      mailboxes = λ k. let e : holdsOf t k ≡ holdsOf t k - 0 = omega arith in
+      mailboxes = λ k. let e : holdCount t k ≡ holdCount t k - 0 = omega arith in
           record {
             holds = e;
             queue = refl;

@@ -14,7 +14,7 @@ use Rattle.ipc_rules.specs.Sound.{Sound}
 use Rattle.ipc_rules.specs.Counts.{authorityRaised}
 use Rattle.ipc_rules.specs.Opening.{openOf, openingOf, anyRightOf}
 use Rattle.ipc_rules.specs.Revoke.{withoutChannel, revokeOf}
-use Rattle.ipc_rules.specs.Views.{queueOf, waiterOf, holdsOf, Alike}
+use Rattle.ipc_rules.specs.Views.{queueOf, waiterOf, holdCount, Alike}
 use Rattle.ipc_rules.specs.declared.state.Endpoint.{Endpoint}
 use Rattle.ipc_rules.specs.declared.state.Mailbox.{Mailbox}
 use Rattle.ipc_rules.specs.declared.state.Table.{Table}
@@ -34,7 +34,7 @@ pub record Revokes (t : Table) (k : ℕ) (u : Table) : Type 0 where
   pub live : mailboxLive u k ≡ false
   pub queue : queueOf u k ≡ []
   pub waiter : waiterOf u k ≡ nobody
-  pub holds : holdsOf u k ≡ 0
+  pub holds : holdCount u k ≡ 0
   pub others : (j : ℕ) → (j ≡ k → ⊥) → Alike t u j
   pub next : u .counters .«next_gen» ≡ t .counters .«next_gen»
   pub sizes : u .sizes ≡ t .sizes

@@ -1,11 +1,8 @@
 -- Send, `sendOf`: its three ways, and what each changes and leaves. Assumes nothing.
-use mathlib.Core.Path.{_≡_, refl, sym, ap, _∙_}
+use mathlib.Core.Path.{_≡_, refl, ap, _∙_}
 use mathlib.Core.Bool.{true}
-use mathlib.Core.List.{List, [], _∷_, _++_}
-use mathlib.Core.Logic.{⊎-elim}
-use Prim.Native.Nat.{ℕ, _+_, _*_, _%_, _<_}
-use native.Mathlib.Nat.{eq-or-lt-of-le}
-use native.Mathlib.Numerals.{add-one}
+use mathlib.Core.List.{[], _∷_, _++_}
+use Prim.Native.Nat.{ℕ, _+_, _*_, _<_}
 use native.Mathlib.Omega.{arith}
 use borrow.Author.Tests.{eqb-true, eqb-false}
 use lib.ListN.{length}
@@ -15,12 +12,12 @@ use Rattle.cap.specs.Rights.{sendRight}
 use Rattle.cap.specs.declared.CapId.{CapId}
 use Rattle.ring.specs.Ring.{contents}
 use Rattle.ring.proofs.Rings.{room, contents-put}
-use Rattle.ipc_rules.specs.State.{freshMailbox, freshMessage, nobody, mailboxAt, mailboxLive, messageAt}
+use Rattle.ipc_rules.specs.State.{freshMailbox, freshMessage, nobody, mailboxAt, mailboxLive, messageIn}
 use Rattle.ipc_rules.specs.Sound.{Sound}
 use Rattle.ipc_rules.specs.Counts.{authorityRaised, fullRaised}
 use Rattle.ipc_rules.specs.Opening.{openingOf}
 use Rattle.ipc_rules.specs.Send.{sendOf, filled, queuedIn}
-use Rattle.ipc_rules.specs.Views.{queueOf, waiterOf, holdsOf, ephemeralOf, Alike, Steady, OnlyMailbox}
+use Rattle.ipc_rules.specs.Views.{queueOf, waiterOf, holdCount, ephemeralOf, Alike, Steady, OnlyMailbox}
 use Rattle.ipc_rules.specs.declared.state.Mailbox.{Mailbox}
 use Rattle.ipc_rules.specs.declared.state.Message.{Message}
 use Rattle.ipc_rules.specs.declared.state.Waiter.{Waiter}
@@ -36,7 +33,7 @@ pub record Sends (t : Table) (m : Message) (k : ℕ) (r : Sending) : Type 0 wher
   pub answer : r .answer ≡ Sent (waiterOf t k)
   pub queue : queueOf (r .table) k ≡ queueOf t k ++ (m ∷ [])
   pub waiter : waiterOf (r .table) k ≡ nobody
-  pub holds : holdsOf (r .table) k ≡ holdsOf t k
+  pub holds : holdCount (r .table) k ≡ holdCount t k
   pub live : mailboxLive (r .table) k ≡ mailboxLive t k
   pub ephemeral : ephemeralOf (r .table) k ≡ ephemeralOf t k
   pub rest : OnlyMailbox t (r .table) k
@@ -58,7 +55,7 @@ module _ (t : Table) (k : ℕ) (m : Message) (s : Sound t) (l : mailboxLive t k 
   abbrev b : Mailbox
   b = mailboxAt t k
 
-  new : messageAt (queuedIn t k m) k (b .ring .head) ≡ m
+  new : messageIn (queuedIn t k m) k (b .ring .head) ≡ m
   new =
       let h = s .ring k l .head in
       let z = s .sizes in
@@ -66,7 +63,7 @@ module _ (t : Table) (k : ℕ) (m : Message) (s : Sound t) (l : mailboxLive t k 
       let u = live-below t k s l in
       getD-set-same (t .messages) (k * 8 + b .ring .head) m freshMessage (omega arith)
 
-  old : (j p : ℕ) → (j * 8 + p ≡ k * 8 + b .ring .head → ⊥) → messageAt (queuedIn t k m) j p ≡ messageAt t j p
+  old : (j p : ℕ) → (j * 8 + p ≡ k * 8 + b .ring .head → ⊥) → messageIn (queuedIn t k m) j p ≡ messageIn t j p
   old j p ne = getD-set-other (t .messages) (k * 8 + b .ring .head) (j * 8 + p) m freshMessage ne
 
   box : mailboxAt (queuedIn t k m) k ≡ filled (t .sizes .depth) b
@@ -76,10 +73,10 @@ module _ (t : Table) (k : ℕ) (m : Message) (s : Sound t) (l : mailboxLive t k 
   unfolding queueOf
   appended room =
       let d = t .sizes .depth in
-      let now = messageAt (queuedIn t k m) k in
+      let now = messageIn (queuedIn t k m) k in
       ap (λ (x : Mailbox). contents now d (x .ring)) box
-      ∙ contents-put (messageAt t k) now d (b .ring) (s .ring k l) room (λ p ne. old k p (λ e. ne (omega arith)))
-      ∙ ap (λ (x : Message). contents (messageAt t k) d (b .ring) ++ (x ∷ [])) new
+      ∙ contents-put (messageIn t k) now d (b .ring) (s .ring k l) room (λ p ne. old k p (λ e. ne (omega arith)))
+      ∙ ap (λ (x : Message). contents (messageIn t k) d (b .ring) ++ (x ∷ [])) new
 
   others : (j : ℕ) → (j ≡ k → ⊥) → Alike t (queuedIn t k m) j
   others j ne =

@@ -2,13 +2,13 @@
 use mathlib.Core.Path.{_≡_, refl, ap, _∙_}
 use mathlib.Core.Bool.{Bool, true, false}
 use mathlib.Core.List.{List, []}
-use Prim.Native.Nat.{ℕ, _+_, _<_}
+use Prim.Native.Nat.{ℕ, _<_}
 use native.Mathlib.Omega.{arith}
 use lib.ListN.{length, set}
 use lib.Seq.{getD-set-other}
 use Rattle.ring.specs.Ring.{IsRing, ringFrom}
 use Rattle.ring.proofs.Rings.{empty-is, contents-length, contents-same}
-use Rattle.ipc_rules.specs.State.{freshMailbox, mailboxAt, mailboxLive, messageAt, withMailbox, withMailboxes, withRefusals}
+use Rattle.ipc_rules.specs.State.{freshMailbox, mailboxAt, mailboxLive, messageIn, withMailbox, withMailboxes, withRefusals}
 use Rattle.ipc_rules.specs.Sound.{Sound}
 use Rattle.ipc_rules.specs.Opening.{openingOf}
 use Rattle.ipc_rules.specs.Views.{queueOf, Alike, Steady, OnlyMailbox, OnlyCounts}
@@ -20,7 +20,7 @@ use Rattle.ipc_rules.specs.declared.state.Table.{Table}
 -- as many messages wait as the mailbox says
 pub queue-length : (t : Table) (k : ℕ) → length (queueOf t k) ≡ mailboxAt t k .ring .len
 unfolding queueOf
-queue-length t k = contents-length (messageAt t k) (t .sizes .depth) (mailboxAt t k .ring)
+queue-length t k = contents-length (messageIn t k) (t .sizes .depth) (mailboxAt t k .ring)
 
 pub queue-none : (t : Table) (k : ℕ) → mailboxAt t k .ring .len ≡ 0 → queueOf t k ≡ []
 unfolding queueOf ringFrom
@@ -36,7 +36,7 @@ has-ring t k s = by (mailboxLive t k) refl
     by false l = rw (s .dead k l) (empty-is _ (s .sizes .deep))
 
 -- with its message places it is seen as it was
-pub alike-of : (t u : Table) (k : ℕ) → Sound t → u .sizes ≡ t .sizes → mailboxAt u k ≡ mailboxAt t k → ((p : ℕ) → p < 8 → messageAt u k p ≡ messageAt t k p) → Alike t u k
+pub alike-of : (t u : Table) (k : ℕ) → Sound t → u .sizes ≡ t .sizes → mailboxAt u k ≡ mailboxAt t k → ((p : ℕ) → p < 8 → messageIn u k p ≡ messageIn t k p) → Alike t u k
 unfolding queueOf
 alike-of t u k s z e h =
     record {

@@ -8,8 +8,8 @@ use lib.Dec.{leb}
 use lib.ListN.{getD, replicate}
 use Rattle.laws.proofs.Cases.{all-pick, not-both}
 use Rattle.laws.proofs.Lists.{all-replicate}
-use Rattle.ipc_rules.specs.State.{freshMailbox, freshEndpoint, freshMessage, boxIn, endIn}
-use Rattle.ipc_rules.specs.Make.{freshOf, inRange, sizesOf, newOf}
+use Rattle.ipc_rules.specs.State.{freshMailbox, freshEndpoint, freshMessage, boxIn, endIn, sizesOf}
+use Rattle.ipc_rules.specs.Make.{freshOf, inRange, newOf}
 use Rattle.ipc_rules.specs.Sound.{InRange, Sound}
 use Rattle.ipc_rules.specs.declared.answers.New.{New}
 use Rattle.ipc_rules.specs.declared.state.Sizes.{Sizes}

@@ -1,15 +1,14 @@
 -- What keeps a table sound: the counts anew, one live mailbox anew, one message place of a live mailbox anew. Assumes nothing.
-use mathlib.Core.Path.{_≡_, refl, sym, ap, _∙_}
-use mathlib.Core.Bool.{Bool, true, false}
-use mathlib.Core.List.{List}
+use mathlib.Core.Path.{_≡_, refl, ap, _∙_}
+use mathlib.Core.Bool.{true, false}
 use Prim.Native.Nat.{ℕ, _+_, _*_, _<_, _≤_}
 use native.Mathlib.Omega.{arith}
-use lib.ListN.{set, getD, length, length-set}
+use lib.ListN.{set, getD, length-set}
 use Rattle.laws.proofs.Cases.{not-both}
 use Rattle.laws.proofs.Lists.{all-set}
-use Rattle.ipc_rules.specs.State.{Shape, freshMailbox, freshMessage, boxLive, mailboxAt, mailboxLive, messageAt, withMailbox, withMessage, withRefusals}
+use Rattle.ipc_rules.specs.State.{freshMailbox, freshMessage, boxLive, mailboxAt, mailboxLive, messageIn, withMailbox, withMessage, withRefusals}
 use Rattle.ring.specs.Ring.{IsRing}
-use Rattle.ipc_rules.specs.Sound.{Sound, Ends, Names}
+use Rattle.ipc_rules.specs.Sound.{Sound, Ends}
 use Rattle.ipc_rules.specs.declared.state.Mailbox.{Mailbox}
 use Rattle.ipc_rules.specs.declared.state.Message.{Message}
 use Rattle.ipc_rules.specs.declared.state.Refusals.{Refusals}
@@ -52,7 +51,7 @@ mailbox-kept t k b s l f =
       places-past = s .places-past;
       next = s .next;
       dead = over (λ j x. x .live ≡ false → x ≡ freshMailbox) (λ h. absurd (not-both (b .live) (f .live) h)) (s .dead);
-      dead-places = λ j p r. over (λ i x. x .live ≡ false → messageAt t i p ≡ freshMessage) (λ h. absurd (not-both (b .live) (f .live) h)) (λ i. s .dead-places i p r) j;
+      dead-places = λ j p r. over (λ i x. x .live ≡ false → messageIn t i p ≡ freshMessage) (λ h. absurd (not-both (b .live) (f .live) h)) (λ i. s .dead-places i p r) j;
       ends = over (λ j x. x .live ≡ true → Ends (t .endpoints) j) (λ _. s .ends k l) (s .ends);
       ring = over (λ _ x. x .live ≡ true → IsRing (t .sizes .depth) (x .ring)) (λ _. f .ring) (s .ring);
       names = λ i v. let n = s .names i v in record { rights = n .rights; live = over (λ j x. boxLive (t .mailboxes) j ≡ true → x .live ≡ true) (λ _. f .live) (λ _ h. h) _ (n .live) };

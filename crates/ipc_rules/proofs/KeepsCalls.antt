@@ -1,24 +1,22 @@
 -- Each call on messages and holds keeps a sound table sound. Assumes nothing.
-use mathlib.Core.Path.{_≡_, refl, sym, ap, _∙_}
+use mathlib.Core.Path.{_≡_, refl, ap, _∙_}
 use mathlib.Core.Bool.{Bool, true, false, _&&_}
 use mathlib.Core.List.{List, [], _∷_}
-use mathlib.Core.Logic.{⊎-elim}
-use Prim.Native.Nat.{ℕ, zero, suc, _+_, _-_, _*_, _%_, _<_, _≤_}
-use native.Mathlib.Nat.{mod-lt, mod-add-mod, add-assoc, eq-or-lt-of-le}
+use Prim.Native.Nat.{ℕ, zero, suc, _-_, _<_, _≤_}
 use native.Mathlib.Omega.{arith}
-use borrow.Author.Tests.{eqb-true, eqb-false, ltb-true, ltb-false}
-use lib.Dec.{eqb, ltb}
+use borrow.Author.Tests.{eqb-false, ltb-true, ltb-false}
+use lib.Dec.{eqb}
 use Rattle.laws.proofs.Cases.{all-pick, not-both}
 use Rattle.laws.proofs.Every.{and-both}
 use Rattle.cap.specs.Rights.{sendRight, receiveRight}
 use Rattle.cap.specs.declared.CapId.{CapId}
 use Rattle.cap.specs.declared.slot.Slot.{Slot}
 use Rattle.ring.proofs.Rings.{room, put-in-is, taken-out-is}
-use Rattle.ipc_rules.specs.State.{nobody, mailboxAt, mailboxLive, withMailbox, withWaiter, withHolders}
+use Rattle.ipc_rules.specs.State.{nobody, mailboxAt, mailboxLive, withWaiter}
 use Rattle.ipc_rules.specs.Sound.{Sound}
 use Rattle.ipc_rules.specs.Counts.{raised}
-use Rattle.ipc_rules.specs.Send.{sendOf, filled, queuedIn}
-use Rattle.ipc_rules.specs.Receive.{recvOf, parkOf, drained, takenFrom, waiting}
+use Rattle.ipc_rules.specs.Send.{sendOf, filled}
+use Rattle.ipc_rules.specs.Receive.{recvOf, parkOf, drained, takenFrom}
 use Rattle.ipc_rules.specs.Holds.{registered, registeredAll, released, releasedAll, more, fewer, reaps, Freed}
 use Rattle.ipc_rules.specs.declared.state.Mailbox.{Mailbox}
 use Rattle.ipc_rules.specs.declared.state.Message.{Message}

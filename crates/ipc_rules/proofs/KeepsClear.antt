@@ -6,7 +6,7 @@ use lib.ListN.{length-map}
 use Rattle.laws.specs.Pick.{pick}
 use Rattle.laws.proofs.Cases.{all-pick, not-both}
 use Rattle.laws.proofs.Lists.{all-map}
-use Rattle.ipc_rules.specs.State.{nobody, freshMailbox, freshMessage, boxLive, mailboxAt, messageAt, withWaiter}
+use Rattle.ipc_rules.specs.State.{nobody, freshMailbox, freshMessage, boxLive, mailboxAt, messageIn, withWaiter}
 use Rattle.ring.specs.Ring.{IsRing}
 use Rattle.ipc_rules.specs.Sound.{Sound, Ends}
 use Rattle.ipc_rules.specs.Waiters.{waitsOn, withoutWaiter, clearOf}
@@ -40,7 +40,7 @@ clear-kept t task s =
       next = s .next;
       dead = cleared-at t task (λ _ x. x .live ≡ false → x ≡ freshMailbox) (s .dead) (λ j h. ap alone (s .dead j h));
       dead-places = λ j p r.
-          cleared-at t task (λ i x. x .live ≡ false → messageAt t i p ≡ freshMessage) (λ i. s .dead-places i p r) (λ i. s .dead-places i p r) j;
+          cleared-at t task (λ i x. x .live ≡ false → messageIn t i p ≡ freshMessage) (λ i. s .dead-places i p r) (λ i. s .dead-places i p r) j;
       ends = cleared-at t task (λ j x. x .live ≡ true → Ends (t .endpoints) j) (s .ends) (s .ends);
       ring = cleared-at t task (λ _ x. x .live ≡ true → IsRing (t .sizes .depth) (x .ring)) (s .ring) (s .ring);
       names = λ i l.

@@ -4,18 +4,17 @@ use mathlib.Core.Bool.{Bool, true, false}
 use mathlib.Core.List.{List}
 use mathlib.Core.Logic.{inl, inr}
 use Prim.Native.Nat.{ℕ, _+_, _≤_, _<_}
-use native.Mathlib.Nat.{mod-eq-of-lt}
 use native.Mathlib.Omega.{arith}
 use lib.ListN.{set, length-set}
 use lib.Seq.{getD-set-same, getD-set-other}
-use Rattle.laws.specs.declared.Place.the-variants.{At}
+use Rattle.laws.specs.declared.Found.the-variants.{At}
 use Rattle.laws.proofs.Cases.{all-found, not-both}
 use Rattle.laws.proofs.Lists.{all-set}
 use Rattle.laws.proofs.Search.{lowest-at}
 use Rattle.cap.specs.Rights.{sendRight, receiveRight}
 use Rattle.cap.specs.declared.CapRights.{CapRights}
 use Rattle.mint.proofs.Generations.{next-not-zero}
-use Rattle.ipc_rules.specs.State.{freshEndpoint, freshMailbox, freshMessage, endpointAt, endpointLive, mailboxAt, mailboxLive, messageAt, newMailbox, newEndpoint}
+use Rattle.ipc_rules.specs.State.{freshEndpoint, freshMailbox, freshMessage, endpointAt, endpointLive, mailboxAt, mailboxLive, messageIn, newMailbox, newEndpoint}
 use Rattle.ring.specs.Ring.{IsRing}
 use Rattle.ring.proofs.Rings.{empty-is}
 use Rattle.ipc_rules.specs.Sound.{Sound, OneEnd, Ends, Names}
@@ -150,7 +149,7 @@ module _ (t : Table) (ephemeral : Bool) (k s r : ℕ) (v : Sound t) (f : Free t 
         next = λ e. omega (arith, next-not-zero (t .counters .«next_gen»));
         dead = over-boxes (λ _ x. x .live ≡ false → x ≡ freshMailbox) (λ d. absurd (not-both true refl d)) (v .dead);
         dead-places = λ j p h.
-            over-boxes (λ i x. x .live ≡ false → messageAt t i p ≡ freshMessage) (λ d. absurd (not-both true refl d)) (λ i. v .dead-places i p h) j;
+            over-boxes (λ i x. x .live ≡ false → messageIn t i p ≡ freshMessage) (λ d. absurd (not-both true refl d)) (λ i. v .dead-places i p h) j;
         ends = over-boxes (λ j x. x .live ≡ true → Ends (after .endpoints) j) (λ _. new-ends) old-ends;
         ring = over-boxes (λ _ x. x .live ≡ true → IsRing (t .sizes .depth) (x .ring)) (λ _. empty-is _ (v .sizes .deep)) (v .ring);
         names = over-ends (λ _ x. x .live ≡ true → Names (after .mailboxes) x) (λ _. record { rights = inl refl; live = live })

@@ -13,7 +13,7 @@ use Rattle.laws.proofs.Cases.{all-pick, not-both}
 use Rattle.laws.proofs.Every.{and-right, and-both}
 use Rattle.laws.proofs.Lists.{all-map, all-reset}
 use Rattle.cap.specs.declared.CapId.{CapId}
-use Rattle.ipc_rules.specs.State.{freshEndpoint, freshMailbox, freshMessage, endpointAt, endpointLive, mailboxAt, messageAt}
+use Rattle.ipc_rules.specs.State.{freshEndpoint, freshMailbox, freshMessage, endpointAt, endpointLive, mailboxAt, messageIn}
 use Rattle.ring.specs.Ring.{IsRing}
 use Rattle.ipc_rules.specs.Sound.{Sound, Ends}
 use Rattle.ipc_rules.specs.Revoke.{killed, wiped, withoutChannel, revokeOf}
@@ -53,13 +53,13 @@ module _ (t : Table) (k : ℕ) where
   after = withoutChannel t k
 
   -- ---- places and mailboxes: those of mailbox k are as when fresh, the others as before
-  pub own-places : (p : ℕ) → p < 8 → messageAt after k p ≡ freshMessage
+  pub own-places : (p : ℕ) → p < 8 → messageIn after k p ≡ freshMessage
   own-places p h =
       wiped-at (λ m. m ≡ freshMessage) (t .messages) k 8 (k * 8 + p) (λ _ _. refl) (λ out. absurd (out (omega arith) (omega arith)))
 
-  pub other-places : (j p : ℕ) → (j ≡ k → ⊥) → p < 8 → messageAt after j p ≡ messageAt t j p
+  pub other-places : (j p : ℕ) → (j ≡ k → ⊥) → p < 8 → messageIn after j p ≡ messageIn t j p
   other-places j p ne h =
-      wiped-at (λ m. m ≡ messageAt t j p) (t .messages) k 8 (j * 8 + p) (λ l g. absurd (ne (omega arith))) (λ _. refl)
+      wiped-at (λ m. m ≡ messageIn t j p) (t .messages) k 8 (j * 8 + p) (λ l g. absurd (ne (omega arith))) (λ _. refl)
 
   pub other-box : (j : ℕ) → (j ≡ k → ⊥) → mailboxAt after j ≡ mailboxAt t j
   other-box j ne = getD-set-other (t .mailboxes) k j freshMailbox freshMailbox ne
@@ -113,7 +113,7 @@ module _ (t : Table) (k : ℕ) where
         next = s .next;
         dead = over-boxes (λ _ x. x .live ≡ false → x ≡ freshMailbox) (λ _. refl) (λ j _. s .dead j);
         dead-places = λ j p r.
-            over-boxes (λ i x. x .live ≡ false → messageAt after i p ≡ freshMessage) (λ _. own-places p r)
+            over-boxes (λ i x. x .live ≡ false → messageIn after i p ≡ freshMessage) (λ _. own-places p r)
             (λ i ne h. other-places i p ne r ∙ s .dead-places i p r h) j;
         ends = over-boxes (λ j x. x .live ≡ true → Ends (after .endpoints) j) (λ l. absurd (not-both false l refl))
             (λ j ne l. old-ends j ne (s .ends j l));

@@ -24,3 +24,5 @@ pub mod AfterNew
 pub mod AfterClear
 pub mod AfterCounts
 pub mod Looks
+pub mod Few
+pub mod Shows

@@ -6,7 +6,7 @@ use Rattle.cap.specs.Rights.{sendRight}
 use Rattle.cap.specs.declared.CapId.{CapId}
 use Rattle.ipc_rules.specs.Opening.{openingOf, eitherOf, opened}
 use Rattle.ipc_rules.specs.Observe.{queuedOf, holdersOf}
-use Rattle.ipc_rules.specs.Views.{queueOf, holdsOf}
+use Rattle.ipc_rules.specs.Views.{queueOf, holdCount}
 use Rattle.ipc_rules.specs.declared.state.Table.{Table}
 use Rattle.ipc_rules.specs.declared.answers.QueuedAnswer as queued
 use Rattle.ipc_rules.specs.declared.answers.HoldersAnswer as holders
@@ -22,7 +22,7 @@ module _ (t : Table) (c : CapId) where
   unfolding queuedOf opened
   queued-refused o = rw o
 
-  pub holders-says : (k : ℕ) → openingOf t c sendRight ≡ Opens k → holdersOf t c ≡ holders.the-variants.Holders (holdsOf t k)
+  pub holders-says : (k : ℕ) → openingOf t c sendRight ≡ Opens k → holdersOf t c ≡ holders.the-variants.Holders (holdCount t k)
   unfolding holdersOf opened
   holders-says k o = rw o
 

@@ -1,11 +1,10 @@
 -- How a choice by an opening is settled, and what an opening says of the endpoint and the mailbox. Assumes nothing.
-use mathlib.Core.Path.{_≡_, refl, sym, ap, _∙_}
+use mathlib.Core.Path.{_≡_, refl, ap, _∙_}
 use mathlib.Core.Bool.{Bool, true, false}
 use mathlib.Core.List.{List}
 use mathlib.Core.Logic.{_⊎_, inl, inr, ⊎-elim}
 use Prim.Native.Nat.{ℕ, _<_, _≤_, _%_}
 use native.Mathlib.Omega.{arith}
-use native.Mathlib.Nat.{mod-eq-of-lt}
 use borrow.Author.Tests.{ltb-true, ltb-false, eqb-true}
 use lib.Dec.{ltb, eqb}
 use lib.Seq.{getD-set-same}
@@ -22,7 +21,6 @@ use Rattle.ipc_rules.specs.Sound.{Sound, InRange}
 use Rattle.ipc_rules.specs.Opening.{openOf, openEither, openAny, openingOf, eitherOf, anyRightOf, holdOf, opened}
 use Rattle.ipc_rules.specs.declared.state.Endpoint.{Endpoint}
 use Rattle.ipc_rules.specs.declared.state.Mailbox.{Mailbox}
-use Rattle.ipc_rules.specs.declared.state.Sizes.{Sizes}
 use Rattle.ipc_rules.specs.declared.state.Table.{Table}
 use Rattle.ipc_rules.specs.declared.opening.Opening.{Opening}
 use Rattle.ipc_rules.specs.declared.opening.Opening.the-variants.{Opens, Shut}

@@ -5,7 +5,8 @@ use borrow.Author.Tests.{eqb-true, eq-eqb, not-true, not-false}
 use lib.Dec.{eqb}
 use Rattle.laws.proofs.Cases.{yes, all-pick, not-both}
 use Rattle.laws.proofs.Every.{and-left, and-right, and-both}
-use Rattle.ipc_rules.specs.Receive.{sameTask, otherWaits, waiting}
+use Rattle.ipc_rules.specs.State.{waiting}
+use Rattle.ipc_rules.specs.Receive.{sameTask, otherWaits}
 use Rattle.ipc_rules.specs.Waiters.{waitsOn}
 use Rattle.ipc_rules.specs.declared.state.Mailbox.{Mailbox}
 use Rattle.ipc_rules.specs.declared.state.TaskId.{TaskId}

@@ -35,15 +35,14 @@ fourWaiterValues ws = waiterValues (getD ws 0 nobody) ++ waiterValues (getD ws 1
 
 -- ---- numbers and values, by call
 abbrev pub newNumber : new.NewAnswer → ℕ
-newNumber new.the-variants.Made = no.accepted
+newNumber new.the-variants.Made = no.none
 newNumber new.the-variants.BadSizes = no.badSizes
 
 abbrev pub newValues : new.NewAnswer → List ℕ
-newValues new.the-variants.Made = []
-newValues new.the-variants.BadSizes = []
+newValues a = []
 
 abbrev pub createNumber : create.CreateAnswer → ℕ
-createNumber (create.the-variants.Created c) = no.accepted
+createNumber (create.the-variants.Created c) = no.none
 createNumber create.the-variants.NoMailbox = no.noMailbox
 createNumber create.the-variants.NoEndpoint = no.noEndpoint
 createNumber create.the-variants.BadTable = no.badTable
@@ -55,7 +54,7 @@ createValues create.the-variants.NoEndpoint = []
 createValues create.the-variants.BadTable = []
 
 abbrev pub sendNumber : send.SendAnswer → ℕ
-sendNumber (send.the-variants.Sent w) = no.accepted
+sendNumber (send.the-variants.Sent w) = no.none
 sendNumber send.the-variants.BadCap = no.badCap
 sendNumber send.the-variants.Full = no.full
 sendNumber send.the-variants.BadTable = no.badTable
@@ -67,7 +66,7 @@ sendValues send.the-variants.Full = []
 sendValues send.the-variants.BadTable = []
 
 abbrev pub recvNumber : recv.RecvAnswer → ℕ
-recvNumber (recv.the-variants.Received m) = no.accepted
+recvNumber (recv.the-variants.Received m) = no.none
 recvNumber recv.the-variants.BadCap = no.badCap
 recvNumber recv.the-variants.Empty = no.empty
 recvNumber recv.the-variants.BadTable = no.badTable
@@ -79,8 +78,8 @@ recvValues recv.the-variants.Empty = []
 recvValues recv.the-variants.BadTable = []
 
 abbrev pub parkNumber : park.ParkAnswer → ℕ
-parkNumber park.the-variants.Parked = no.accepted
-parkNumber (park.the-variants.Given m) = no.accepted
+parkNumber park.the-variants.Parked = no.none
+parkNumber (park.the-variants.Given m) = no.none
 parkNumber park.the-variants.BadCap = no.badCap
 parkNumber park.the-variants.Busy = no.busy
 parkNumber park.the-variants.Cancelled = no.cancelled
@@ -96,7 +95,7 @@ parkValues park.the-variants.Cancelled = []
 parkValues park.the-variants.BadTable = []
 
 abbrev pub queuedNumber : queued.QueuedAnswer → ℕ
-queuedNumber (queued.the-variants.Queued n) = no.accepted
+queuedNumber (queued.the-variants.Queued n) = no.none
 queuedNumber queued.the-variants.BadCap = no.badCap
 queuedNumber queued.the-variants.BadTable = no.badTable
 
@@ -106,7 +105,7 @@ queuedValues queued.the-variants.BadCap = []
 queuedValues queued.the-variants.BadTable = []
 
 abbrev pub holdersNumber : holders.HoldersAnswer → ℕ
-holdersNumber (holders.the-variants.Holders n) = no.accepted
+holdersNumber (holders.the-variants.Holders n) = no.none
 holdersNumber holders.the-variants.BadCap = no.badCap
 holdersNumber holders.the-variants.BadTable = no.badTable
 
@@ -116,17 +115,15 @@ holdersValues holders.the-variants.BadCap = []
 holdersValues holders.the-variants.BadTable = []
 
 abbrev pub registerNumber : register.RegisterAnswer → ℕ
-registerNumber register.the-variants.Registered = no.accepted
+registerNumber register.the-variants.Registered = no.none
 registerNumber register.the-variants.BadWord = no.badWord
 registerNumber register.the-variants.BadTable = no.badTable
 
 abbrev pub registerValues : register.RegisterAnswer → List ℕ
-registerValues register.the-variants.Registered = []
-registerValues register.the-variants.BadWord = []
-registerValues register.the-variants.BadTable = []
+registerValues a = []
 
 abbrev pub releaseNumber : release.ReleaseAnswer → ℕ
-releaseNumber release.the-variants.Released = no.accepted
+releaseNumber release.the-variants.Released = no.none
 releaseNumber release.the-variants.BadTable = no.badTable
 
 -- the four waiters stand beside the answer
@@ -135,7 +132,7 @@ releaseValues release.the-variants.Released ws = fourWaiterValues ws
 releaseValues release.the-variants.BadTable ws = []
 
 abbrev pub revokeNumber : revoke.RevokeAnswer → ℕ
-revokeNumber (revoke.the-variants.Revoked w) = no.accepted
+revokeNumber (revoke.the-variants.Revoked w) = no.none
 revokeNumber revoke.the-variants.BadCap = no.badCap
 revokeNumber revoke.the-variants.BadTable = no.badTable
 
@@ -145,7 +142,7 @@ revokeValues revoke.the-variants.BadCap = []
 revokeValues revoke.the-variants.BadTable = []
 
 abbrev pub clearNumber : clear.ClearAnswer → ℕ
-clearNumber (clear.the-variants.Cleared n) = no.accepted
+clearNumber (clear.the-variants.Cleared n) = no.none
 clearNumber clear.the-variants.BadTable = no.badTable
 
 abbrev pub clearValues : clear.ClearAnswer → List ℕ
@@ -153,15 +150,14 @@ clearValues (clear.the-variants.Cleared n) = n ∷ []
 clearValues clear.the-variants.BadTable = []
 
 abbrev pub noteNumber : note.NoteAnswer → ℕ
-noteNumber note.the-variants.Noted = no.accepted
+noteNumber note.the-variants.Noted = no.none
 noteNumber note.the-variants.BadTable = no.badTable
 
 abbrev pub noteValues : note.NoteAnswer → List ℕ
-noteValues note.the-variants.Noted = []
-noteValues note.the-variants.BadTable = []
+noteValues a = []
 
 abbrev pub countsNumber : counts.RefusalsAnswer → ℕ
-countsNumber (counts.the-variants.Counts r) = no.accepted
+countsNumber (counts.the-variants.Counts r) = no.none
 countsNumber counts.the-variants.BadTable = no.badTable
 
 abbrev pub countsValues : counts.RefusalsAnswer → List ℕ

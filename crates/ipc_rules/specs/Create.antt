@@ -2,23 +2,22 @@
 use mathlib.Core.Bool.{Bool}
 use Prim.Native.Nat.{ℕ, _+_}
 use lib.ListN.{set}
-use Rattle.laws.specs.Place.{found, lowestFree}
-use Rattle.laws.specs.declared.Place.{Place}
+use Rattle.laws.specs.Search.{found, lowestFree}
+use Rattle.laws.specs.declared.Found.{Found}
 use Rattle.cap.specs.Id.{idOf}
 use Rattle.cap.specs.Rights.{sendRight, receiveRight}
 use Rattle.mint.specs.Generation.{nextGeneration}
 use Rattle.ipc_rules.specs.State.{mailboxLive, endpointLive, nextOf, newMailbox, newEndpoint, withEndpoints, withMailbox, withNext}
 use Rattle.ipc_rules.specs.declared.state.Table.{Table}
 use Rattle.ipc_rules.specs.declared.answers.Creation.{Creation}
-use Rattle.ipc_rules.specs.declared.answers.CreateAnswer.{CreateAnswer}
 use Rattle.ipc_rules.specs.declared.answers.CreateAnswer.the-variants.{Created, NoMailbox, NoEndpoint}
 
 -- the lowest free mailbox
-abbrev pub freeMailbox : Table → Place
+abbrev pub freeMailbox : Table → Found
 freeMailbox t = lowestFree (mailboxLive t) 0 (t .sizes .mailboxes)
 
 -- the lowest free endpoint from `from` up
-abbrev pub freeEndpoint : Table → ℕ → Place
+abbrev pub freeEndpoint : Table → ℕ → Found
 freeEndpoint t from = lowestFree (endpointLive t) from (t .sizes .endpoints)
 
 -- mailbox k with its send end at endpoint s and its receive end at r, both of the present generation, which then goes up

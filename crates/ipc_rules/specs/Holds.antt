@@ -14,10 +14,8 @@ use Rattle.ipc_rules.specs.declared.state.Mailbox.{Mailbox}
 use Rattle.ipc_rules.specs.declared.state.Waiter.{Waiter}
 use Rattle.ipc_rules.specs.declared.state.Table.{Table}
 use Rattle.ipc_rules.specs.declared.answers.Registering.{Registering}
-use Rattle.ipc_rules.specs.declared.answers.RegisterAnswer.{RegisterAnswer}
 use Rattle.ipc_rules.specs.declared.answers.RegisterAnswer.the-variants.{Registered, BadWord}
 use Rattle.ipc_rules.specs.declared.answers.Releasing.{Releasing}
-use Rattle.ipc_rules.specs.declared.answers.ReleaseAnswer.{ReleaseAnswer}
 use Rattle.ipc_rules.specs.declared.answers.ReleaseAnswer.the-variants.{Released}
 
 -- ---- register

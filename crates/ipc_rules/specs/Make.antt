@@ -4,11 +4,10 @@ use Prim.Native.Nat.{ℕ}
 use lib.Dec.{leb}
 use lib.ListN.{replicate}
 use Rattle.laws.specs.Pick.{pick}
-use Rattle.ipc_rules.specs.State.{freshEndpoint, freshMailbox, freshMessage, freshTable}
+use Rattle.ipc_rules.specs.State.{freshEndpoint, freshMailbox, freshMessage, freshTable, sizesOf}
 use Rattle.ipc_rules.specs.declared.state.Sizes.{Sizes}
 use Rattle.ipc_rules.specs.declared.state.Table.{Table}
 use Rattle.ipc_rules.specs.declared.answers.New.{New}
-use Rattle.ipc_rules.specs.declared.answers.NewAnswer.{NewAnswer}
 use Rattle.ipc_rules.specs.declared.answers.NewAnswer.the-variants.{Made, BadSizes}
 
 -- nothing lives, the present generation is 1, nothing was refused
@@ -18,9 +17,6 @@ freshOf z = freshTable z (replicate 64 freshEndpoint) (replicate 32 freshMailbox
 -- m mailboxes 0 to 32, e endpoints 0 to 64, depth d 1 to 8
 abbrev pub inRange : Sizes → Bool
 inRange z = leb (z .mailboxes) 32 && leb (z .endpoints) 64 && leb 1 (z .depth) && leb (z .depth) 8
-
-abbrev pub sizesOf : ℕ → ℕ → ℕ → Sizes
-sizesOf m e d = record { mailboxes = m; endpoints = e; depth = d }
 
 -- outside the sizes: 20, and with it a fresh table of sizes 0, 0, 1
 unfoldable pub newOf : ℕ → ℕ → ℕ → New

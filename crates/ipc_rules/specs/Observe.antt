@@ -1,5 +1,4 @@
 -- Document 01, "Channels": the calls that only look, `queued` by either right and `send_holders` by send, and the counts.
-use Prim.Native.Nat.{ℕ}
 use Rattle.cap.specs.Rights.{sendRight}
 use Rattle.cap.specs.declared.CapId.{CapId}
 use Rattle.ipc_rules.specs.State.{mailboxAt, countsOf}

@@ -1,12 +1,12 @@
 -- Document 01, "Channels": try to receive, and park.
-use mathlib.Core.Bool.{Bool, true, false, _&&_, not}
+use mathlib.Core.Bool.{Bool, false, _&&_, not}
 use Prim.Native.Nat.{ℕ}
 use lib.Dec.{ltb, eqb}
 use Rattle.laws.specs.Pick.{pick}
 use Rattle.cap.specs.Rights.{receiveRight}
 use Rattle.cap.specs.declared.CapId.{CapId}
 use Rattle.ring.specs.Ring.{takenOut}
-use Rattle.ipc_rules.specs.State.{mailboxAt, messageAt, withMailbox, withRing, withWaiter}
+use Rattle.ipc_rules.specs.State.{mailboxAt, messageIn, waiting, withMailbox, withRing, withWaiter}
 use Rattle.ipc_rules.specs.Opening.{openingOf, opened}
 use Rattle.ipc_rules.specs.Counts.{authorityRaised, stateRaised}
 use Rattle.ipc_rules.specs.declared.state.Message.{Message}
@@ -25,7 +25,7 @@ drained d b = withRing b (takenOut d (b .ring))
 
 -- the oldest message of mailbox k, and the table without it
 abbrev pub oldest : Table → ℕ → Message
-oldest t k = messageAt t k (mailboxAt t k .ring .tail)
+oldest t k = messageIn t k (mailboxAt t k .ring .tail)
 
 abbrev pub takenFrom : Table → ℕ → Table
 takenFrom t k = withMailbox t k (drained (t .sizes .depth) (mailboxAt t k))
@@ -44,9 +44,6 @@ sameTask x y = eqb (x .slot) (y .slot) && eqb (x .epoch) (y .epoch)
 -- another task waits: the place is not vacant, and the task in it is not this one
 abbrev pub otherWaits : Waiter → TaskId → Bool
 otherWaits w task = pick (w .present) (not (sameTask (w .task) task)) false
-
-abbrev pub waiting : TaskId → Waiter
-waiting task = record { present = true; task = task }
 
 abbrev pub parkedIn : Table → ℕ → TaskId → Table
 parkedIn t k task = withMailbox t k (withWaiter (mailboxAt t k) (waiting task))

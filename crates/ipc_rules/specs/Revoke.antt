@@ -13,7 +13,6 @@ use Rattle.ipc_rules.specs.declared.state.Endpoint.{Endpoint}
 use Rattle.ipc_rules.specs.declared.state.Message.{Message}
 use Rattle.ipc_rules.specs.declared.state.Table.{Table}
 use Rattle.ipc_rules.specs.declared.answers.Revoking.{Revoking}
-use Rattle.ipc_rules.specs.declared.answers.RevokeAnswer.{RevokeAnswer}
 use Rattle.ipc_rules.specs.declared.answers.RevokeAnswer.the-variants.{Revoked, BadCap}
 
 -- an end of mailbox k dies, and keeps its generation, its rights and its mailbox; other endpoints stay

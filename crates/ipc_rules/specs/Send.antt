@@ -12,7 +12,6 @@ use Rattle.ipc_rules.specs.declared.state.Message.{Message}
 use Rattle.ipc_rules.specs.declared.state.Mailbox.{Mailbox}
 use Rattle.ipc_rules.specs.declared.state.Table.{Table}
 use Rattle.ipc_rules.specs.declared.answers.Sending.{Sending}
-use Rattle.ipc_rules.specs.declared.answers.SendAnswer.{SendAnswer}
 use Rattle.ipc_rules.specs.declared.answers.SendAnswer.the-variants.{Sent, BadCap, Full}
 
 -- one message more in a ring of depth d, and the waiter taken out

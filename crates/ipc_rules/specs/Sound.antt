@@ -7,7 +7,7 @@ use Prim.Native.Nat.{ℕ, _≤_, _<_}
 use Rattle.cap.specs.Rights.{sendRight, receiveRight}
 use Rattle.cap.specs.declared.CapRights.{CapRights}
 use Rattle.ring.specs.Ring.{IsRing}
-use Rattle.ipc_rules.specs.State.{Shape, nextOf, freshMailbox, freshEndpoint, freshMessage, mailboxAt, endpointAt, messageAt, endIn, endLive, boxLive, mailboxLive, endpointLive}
+use Rattle.ipc_rules.specs.State.{Shape, nextOf, freshMailbox, freshEndpoint, freshMessage, mailboxAt, endpointAt, messageIn, endIn, endLive, boxLive, mailboxLive, endpointLive}
 use Rattle.ipc_rules.specs.declared.state.Endpoint.{Endpoint}
 use Rattle.ipc_rules.specs.declared.state.Mailbox.{Mailbox}
 use Rattle.ipc_rules.specs.declared.state.Sizes.{Sizes}
@@ -51,11 +51,11 @@ pub record Sound (t : Table) : Type 0 where
   -- mailboxes, endpoints and message places past the sizes are as when fresh
   pub mailboxes-past : (k : ℕ) → t .sizes .mailboxes ≤ k → mailboxAt t k ≡ freshMailbox
   pub endpoints-past : (i : ℕ) → t .sizes .endpoints ≤ i → endpointAt t i ≡ freshEndpoint
-  pub places-past : (k p : ℕ) → p < 8 → t .sizes .depth ≤ p → messageAt t k p ≡ freshMessage
+  pub places-past : (k p : ℕ) → p < 8 → t .sizes .depth ≤ p → messageIn t k p ≡ freshMessage
   pub next : nextOf t ≡ 0 → ⊥
   -- every dead mailbox is as when fresh, messages included
   pub dead : (k : ℕ) → mailboxLive t k ≡ false → mailboxAt t k ≡ freshMailbox
-  pub dead-places : (k p : ℕ) → p < 8 → mailboxLive t k ≡ false → messageAt t k p ≡ freshMessage
+  pub dead-places : (k p : ℕ) → p < 8 → mailboxLive t k ≡ false → messageIn t k p ≡ freshMessage
   -- every live mailbox has its two ends; the length is at most d, both ring ends are below d and differ by the length modulo d
   pub ends : (k : ℕ) → mailboxLive t k ≡ true → Ends (t .endpoints) k
   pub ring : (k : ℕ) → mailboxLive t k ≡ true → IsRing (t .sizes .depth) (mailboxAt t k .ring)

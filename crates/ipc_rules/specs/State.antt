@@ -1,5 +1,5 @@
 -- A channel table's parts as when fresh, what stands at a place of it, and each record with one field anew. No other file writes a
--- message, an endpoint, a mailbox, the counters or a table out, so that a field more is a change here.
+-- message, a waiter, an endpoint, a mailbox, the sizes, the counters or a table out, so that a field more is a change here.
 use mathlib.Core.Path.{_≡_}
 use mathlib.Core.Bool.{Bool, true, false}
 use mathlib.Core.List.{List}
@@ -25,6 +25,10 @@ freshMessage = record { tag = 0; a = 0; b = 0 }
 
 abbrev pub nobody : Waiter
 nobody = record { present = false; task = record { slot = 0; epoch = 0 } }
+
+-- a task that waits
+abbrev pub waiting : TaskId → Waiter
+waiting task = record { present = true; task = task }
 
 abbrev pub freshEndpoint : Endpoint
 freshEndpoint = record { live = false; generation = 0; rights = noRights; mailbox = 0 }
@@ -71,8 +75,8 @@ mailboxLive t k = boxLive (t .mailboxes) k
 abbrev pub placeOf : ℕ → ℕ → ℕ
 placeOf k p = k * 8 + p
 
-abbrev pub messageAt : Table → ℕ → ℕ → Message
-messageAt t k p = getD (t .messages) (placeOf k p) freshMessage
+abbrev pub messageIn : Table → ℕ → ℕ → Message
+messageIn t k p = getD (t .messages) (placeOf k p) freshMessage
 
 -- the generation that the next channel gets, and the refusals so far
 abbrev pub nextOf : Table → ℕ
@@ -110,6 +114,10 @@ withFull x n = record { authority = x .authority; full = n; state = x .state }
 
 abbrev pub withState : Refusals → ℕ → Refusals
 withState x n = record { authority = x .authority; full = x .full; state = n }
+
+-- ---- the sizes in force: mailboxes, endpoints, depth
+abbrev pub sizesOf : ℕ → ℕ → ℕ → Sizes
+sizesOf m e d = record { mailboxes = m; endpoints = e; depth = d }
 
 -- ---- a table that nothing happened to, and with one field anew
 abbrev pub freshTable : Sizes → List Endpoint → List Mailbox → List Message → Table

@@ -12,8 +12,8 @@ use Rattle.cap.specs.Rights.{containsAll}
 use Rattle.cap.specs.declared.CapId.{CapId}
 use Rattle.cap.specs.declared.CapRights.{CapRights}
 use Rattle.cap.specs.declared.slot.Slot.{Slot}
-use Rattle.ipc_rules.specs.State.{mailboxAt, mailboxLive, messageAt, nextOf, countsOf, withAuthority, withFull, withState}
-use Rattle.ipc_rules.specs.Counts.{raised}
+use Rattle.ipc_rules.specs.State.{mailboxAt, mailboxLive, messageIn, nextOf, countsOf}
+use Rattle.ipc_rules.specs.Counts.{raised, authorityNoted, fullNoted, stateNoted}
 use Rattle.ipc_rules.specs.Opening.{openingOf, holdOf, opened}
 use Rattle.ipc_rules.specs.declared.state.Message.{Message}
 use Rattle.ipc_rules.specs.declared.state.Refusals.{Refusals}
@@ -25,15 +25,15 @@ use Rattle.ipc_rules.specs.declared.opening.Opening.the-variants.{Opens,
 -- ---- one mailbox
 -- what waits in mailbox k, oldest first
 unfoldable pub queueOf : Table → ℕ → List Message
-queueOf t k = contents (messageAt t k) (t .sizes .depth) (mailboxAt t k .ring)
+queueOf t k = contents (messageIn t k) (t .sizes .depth) (mailboxAt t k .ring)
 
 -- who waits on it
 abbrev pub waiterOf : Table → ℕ → Waiter
 waiterOf t k = mailboxAt t k .waiter
 
 -- how many slots hold its send end
-abbrev pub holdsOf : Table → ℕ → ℕ
-holdsOf t k = mailboxAt t k .«send_holders»
+abbrev pub holdCount : Table → ℕ → ℕ
+holdCount t k = mailboxAt t k .«send_holders»
 
 -- whether it was created ephemeral
 abbrev pub ephemeralOf : Table → ℕ → Bool
@@ -58,9 +58,9 @@ raisedBy (suc n) count = raisedBy n (raised count)
 -- the counts after an answer of number n: BadCap raises authority, Full full, Busy state, and no other number a count
 unfoldable pub countsBy : ℕ → Refusals → Refusals
 countsBy n x =
-    pick (eqb n no.badCap) (withAuthority x (raised (x .authority)))
-    (pick (eqb n no.full) (withFull x (raised (x .full)))
-    (pick (eqb n no.busy) (withState x (raised (x .state)))
+    pick (eqb n no.badCap) (authorityNoted x)
+    (pick (eqb n no.full) (fullNoted x)
+    (pick (eqb n no.busy) (stateNoted x)
     x))
 
 -- ---- one end
@@ -75,7 +75,7 @@ pub record Alike (t u : Table) (k : ℕ) : Type 0 where
   pub ephemeral : ephemeralOf u k ≡ ephemeralOf t k
   pub queue : queueOf u k ≡ queueOf t k
   pub waiter : waiterOf u k ≡ waiterOf t k
-  pub holds : holdsOf u k ≡ holdsOf t k
+  pub holds : holdCount u k ≡ holdCount t k
 
 -- the sizes, what each id opens by each right, and the next generation are as they were
 pub record Steady (t u : Table) : Type 0 where

@@ -1,7 +1,6 @@
 -- Document 01, "Channels": `clear_waiter` removes that task from every mailbox and counts.
 use mathlib.Core.Bool.{Bool, false}
 use mathlib.Core.List.{map}
-use Prim.Native.Nat.{ℕ}
 use Rattle.laws.specs.Pick.{pick}
 use Rattle.laws.specs.Every.{count}
 use Rattle.ipc_rules.specs.State.{nobody, mailboxAt, withMailboxes, withWaiter}
@@ -10,7 +9,6 @@ use Rattle.ipc_rules.specs.declared.state.Mailbox.{Mailbox}
 use Rattle.ipc_rules.specs.declared.state.TaskId.{TaskId}
 use Rattle.ipc_rules.specs.declared.state.Table.{Table}
 use Rattle.ipc_rules.specs.declared.answers.Clearing.{Clearing}
-use Rattle.ipc_rules.specs.declared.answers.ClearAnswer.{ClearAnswer}
 use Rattle.ipc_rules.specs.declared.answers.ClearAnswer.the-variants.{Cleared}
 
 -- the task waits on the mailbox: someone does, and it is that task

@@ -5,4 +5,5 @@
 pub mod answers;
 pub mod numbers;
 pub mod opening;
+pub mod showing;
 pub mod state;

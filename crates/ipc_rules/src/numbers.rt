@@ -21,7 +21,7 @@ impl NewAnswer {
         ensures { λ r. ⌜ r ≡ newNumber self ⌝ }
     {
         match self {
-            NewAnswer::Made => refusals::ACCEPTED,
+            NewAnswer::Made => refusals::NONE,
             NewAnswer::BadSizes => refusals::BAD_SIZES,
         }
     }
@@ -32,7 +32,7 @@ impl CreateAnswer {
         ensures { λ r. ⌜ r ≡ createNumber self ⌝ }
     {
         match self {
-            CreateAnswer::Created(_) => refusals::ACCEPTED,
+            CreateAnswer::Created(_) => refusals::NONE,
             CreateAnswer::NoMailbox => refusals::NO_MAILBOX,
             CreateAnswer::NoEndpoint => refusals::NO_ENDPOINT,
             CreateAnswer::BadTable => refusals::BAD_TABLE,
@@ -45,7 +45,7 @@ impl SendAnswer {
         ensures { λ r. ⌜ r ≡ sendNumber self ⌝ }
     {
         match self {
-            SendAnswer::Sent(_) => refusals::ACCEPTED,
+            SendAnswer::Sent(_) => refusals::NONE,
             SendAnswer::BadCap => refusals::BAD_CAP,
             SendAnswer::Full => refusals::FULL,
             SendAnswer::BadTable => refusals::BAD_TABLE,
@@ -58,7 +58,7 @@ impl RecvAnswer {
         ensures { λ r. ⌜ r ≡ recvNumber self ⌝ }
     {
         match self {
-            RecvAnswer::Received(_) => refusals::ACCEPTED,
+            RecvAnswer::Received(_) => refusals::NONE,
             RecvAnswer::BadCap => refusals::BAD_CAP,
             RecvAnswer::Empty => refusals::EMPTY,
             RecvAnswer::BadTable => refusals::BAD_TABLE,
@@ -71,8 +71,8 @@ impl ParkAnswer {
         ensures { λ r. ⌜ r ≡ parkNumber self ⌝ }
     {
         match self {
-            ParkAnswer::Parked => refusals::ACCEPTED,
-            ParkAnswer::Given(_) => refusals::ACCEPTED,
+            ParkAnswer::Parked => refusals::NONE,
+            ParkAnswer::Given(_) => refusals::NONE,
             ParkAnswer::BadCap => refusals::BAD_CAP,
             ParkAnswer::Busy => refusals::BUSY,
             ParkAnswer::Cancelled => refusals::CANCELLED,
@@ -86,7 +86,7 @@ impl QueuedAnswer {
         ensures { λ r. ⌜ r ≡ queuedNumber self ⌝ }
     {
         match self {
-            QueuedAnswer::Queued(_) => refusals::ACCEPTED,
+            QueuedAnswer::Queued(_) => refusals::NONE,
             QueuedAnswer::BadCap => refusals::BAD_CAP,
             QueuedAnswer::BadTable => refusals::BAD_TABLE,
         }
@@ -98,7 +98,7 @@ impl HoldersAnswer {
         ensures { λ r. ⌜ r ≡ holdersNumber self ⌝ }
     {
         match self {
-            HoldersAnswer::Holders(_) => refusals::ACCEPTED,
+            HoldersAnswer::Holders(_) => refusals::NONE,
             HoldersAnswer::BadCap => refusals::BAD_CAP,
             HoldersAnswer::BadTable => refusals::BAD_TABLE,
         }
@@ -110,7 +110,7 @@ impl RegisterAnswer {
         ensures { λ r. ⌜ r ≡ registerNumber self ⌝ }
     {
         match self {
-            RegisterAnswer::Registered => refusals::ACCEPTED,
+            RegisterAnswer::Registered => refusals::NONE,
             RegisterAnswer::BadWord => refusals::BAD_WORD,
             RegisterAnswer::BadTable => refusals::BAD_TABLE,
         }
@@ -122,7 +122,7 @@ impl ReleaseAnswer {
         ensures { λ r. ⌜ r ≡ releaseNumber self ⌝ }
     {
         match self {
-            ReleaseAnswer::Released => refusals::ACCEPTED,
+            ReleaseAnswer::Released => refusals::NONE,
             ReleaseAnswer::BadTable => refusals::BAD_TABLE,
         }
     }
@@ -133,7 +133,7 @@ impl RevokeAnswer {
         ensures { λ r. ⌜ r ≡ revokeNumber self ⌝ }
     {
         match self {
-            RevokeAnswer::Revoked(_) => refusals::ACCEPTED,
+            RevokeAnswer::Revoked(_) => refusals::NONE,
             RevokeAnswer::BadCap => refusals::BAD_CAP,
             RevokeAnswer::BadTable => refusals::BAD_TABLE,
         }
@@ -145,7 +145,7 @@ impl ClearAnswer {
         ensures { λ r. ⌜ r ≡ clearNumber self ⌝ }
     {
         match self {
-            ClearAnswer::Cleared(_) => refusals::ACCEPTED,
+            ClearAnswer::Cleared(_) => refusals::NONE,
             ClearAnswer::BadTable => refusals::BAD_TABLE,
         }
     }
@@ -156,7 +156,7 @@ impl NoteAnswer {
         ensures { λ r. ⌜ r ≡ noteNumber self ⌝ }
     {
         match self {
-            NoteAnswer::Noted => refusals::ACCEPTED,
+            NoteAnswer::Noted => refusals::NONE,
             NoteAnswer::BadTable => refusals::BAD_TABLE,
         }
     }
@@ -167,7 +167,7 @@ impl RefusalsAnswer {
         ensures { λ r. ⌜ r ≡ countsNumber self ⌝ }
     {
         match self {
-            RefusalsAnswer::Counts(_) => refusals::ACCEPTED,
+            RefusalsAnswer::Counts(_) => refusals::NONE,
             RefusalsAnswer::BadTable => refusals::BAD_TABLE,
         }
     }

@@ -1,5 +1,7 @@
 // What a channel table is made of. Ported from ipc.rs: one record with the greatest sizes and the sizes in force, and all message
 // rings in one array.
+ghost use mathlib.Core.Path.{_≡_};
+ghost use Rattle.ipc_rules.specs.State.{endLives, boxLives};
 use cap::CapId;
 use cap::CapRights;
 use ring::Ring;
@@ -75,6 +77,23 @@ pub struct Table {
     pub mailboxes: [Mailbox; 32],
     pub messages: [Message; 256],
     pub counters: Counters,
+}
+
+// The one reading of liveness, for endpoints and for mailboxes.
+impl Endpoint {
+    pub fn is_live(self) -> bool
+        ensures { λ r. ⌜ r ≡ endLives self ⌝ }
+    {
+        self.live
+    }
+}
+
+impl Mailbox {
+    pub fn is_live(self) -> bool
+        ensures { λ r. ⌜ r ≡ boxLives self ⌝ }
+    {
+        self.live
+    }
 }
 
 // The parts as when fresh.

@@ -9,7 +9,7 @@ use lib.Dec.{ltb}
 use lib.ListN.{getD}
 use Rattle.laws.specs.Every.{every}
 use Rattle.laws.proofs.Every.{every-at, at-every, and-left, and-right}
-use Rattle.ipc_rules.specs.State.{Shape, freshMessage, messageAt, mailboxLive}
+use Rattle.ipc_rules.specs.State.{Shape, freshMessage, messageIn, mailboxLive}
 use Rattle.ipc_rules.specs.Sound.{Sound}
 use Rattle.ipc_sound.specs.SoundTest.{isFreshMessage, placeOk}
 use Rattle.ipc_rules.specs.declared.state.Message.{Message}
@@ -40,7 +40,7 @@ kind t i h =
 
 -- a place that is in no ring is as when fresh
 pub fresh-place : (t : Table) → Shape t → every (placeOk t) 256 ≡ true → (k p : ℕ) → p < 8 →
-    (mailboxLive t k ≡ true → p < t .sizes .depth → ⊥) → messageAt t k p ≡ freshMessage
+    (mailboxLive t k ≡ true → p < t .sizes .depth → ⊥) → messageIn t k p ≡ freshMessage
 fresh-place t shape h k p l none =
     let box : (k * 8 + p) / 8 ≡ k = omega arith in
     let place : (k * 8 + p) % 8 ≡ p = omega arith in
@@ -60,7 +60,7 @@ passes t i (inr r) = simp (r .live, lt-ltb _ _ (r .below), or-true)
 pub places-pass : (t : Table) → Sound t → every (placeOk t) 256 ≡ true
 places-pass t σ = at-every (placeOk t) 256 (λ i _. passes t i (kinds i))
   where
-    fresh : (i : ℕ) → messageAt t (i / 8) (i % 8) ≡ freshMessage → flat t i ≡ freshMessage
+    fresh : (i : ℕ) → messageIn t (i / 8) (i % 8) ≡ freshMessage → flat t i ≡ freshMessage
     fresh i e = let whole : i / 8 * 8 + i % 8 ≡ i = omega arith in rw whole at e
 
     kinds : (i : ℕ) → (flat t i ≡ freshMessage) ⊎ InRing t i

@@ -1,5 +1,5 @@
 -- Document 01, refusal 27: a call that is lent an unsound channel table refuses it first of all, and gives it back as it was.
-use mathlib.Core.Bool.{Bool, true, false}
+use mathlib.Core.Bool.{Bool}
 use mathlib.Core.List.{List, []}
 use Prim.Native.Nat.{ℕ}
 use Rattle.laws.specs.Pick.{pick}

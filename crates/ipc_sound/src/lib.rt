@@ -1,11 +1,13 @@
 // Whether a channel table that was lent is one that the calls keep: the test before every call, refusal 27.
 ghost use mathlib.Core.Path.{_≡_};
+ghost use mathlib.Core.Bool.{true};
 ghost use Prim.Native.Nat.{ℕ, _<_, _≤_};
 ghost use lib.ListN.{getD};
 ghost use Rattle.cap.specs.Rights.{sendRight, receiveRight};
 ghost use Rattle.laws.specs.Every.{every};
 ghost use Rattle.laws.specs.Pick.{pick};
 ghost use Rattle.ipc_rules.specs.Make.{inRange};
+ghost use Rattle.ipc_rules.specs.Sound.{Sound};
 ghost use Rattle.ipc_sound.specs.SoundTest.{isEnd, isFreshEndpoint, isFreshMailbox, placeTest, placeOk, Remembers, endpointTest, endpointOk, waiterTest, endsTest, mailboxTest, mailboxOk, soundTest};
 use cap::CapRights;
 use ipc_rules::state::Endpoint;
@@ -43,7 +45,7 @@ fn places_ok(t: Table) -> bool
     while i < PLACES {
         let m = t.messages[i];
         let b = t.mailboxes[i / MAX_DEPTH];
-        ok = ok & place_test(m, b.live, i % MAX_DEPTH, d);
+        ok = ok & place_test(m, b.is_live(), i % MAX_DEPTH, d);
         i += 1;
     }
     ok
@@ -63,7 +65,7 @@ fn noted(s: Last, e: Endpoint, w: CapRights, i: usize) -> Last
     requires { ⌜ i < 64 ⌝ }
     ensures { λ r. ⌜ ((k : ℕ) → k < 32 → getD (r .at) k 0 ≡ pick (isEnd e w k) i (getD (s .at) k 0)) ⌝ }
 {
-    if e.live & (e.rights.bits == w.bits) & (e.mailbox < 32) {
+    if e.is_live() & (e.rights.bits == w.bits) & (e.mailbox < 32) {
         let mut o = s;
         let k = e.mailbox as usize;
         o.at[k] = i as u8;
@@ -91,13 +93,13 @@ fn last_ends(es: [Endpoint; 64]) -> Ends
 fn is_fresh_endpoint(e: Endpoint) -> bool
     ensures { λ r. ⌜ r ≡ isFreshEndpoint e ⌝ }
 {
-    !e.live & (e.generation == 0) & (e.rights.bits == 0) & (e.mailbox == 0)
+    !e.is_live() & (e.generation == 0) & (e.rights.bits == 0) & (e.mailbox == 0)
 }
 
 fn endpoint_test(e: Endpoint, below: bool, named: bool, send: bool, recv: bool) -> bool
     ensures { λ r. ⌜ r ≡ endpointTest e below named send recv ⌝ }
 {
-    if !e.live {
+    if !e.is_live() {
         return below | is_fresh_endpoint(e);
     }
     below
@@ -119,7 +121,7 @@ fn endpoints_ok(n: usize, es: [Endpoint; 64], bs: [Mailbox; 32], l: Ends) -> boo
         let e = es[i];
         let k = (e.mailbox % 32) as usize;
         let b = bs[k];
-        let named = (e.mailbox < 32) & b.live;
+        let named = (e.mailbox < 32) & b.is_live();
         ok = ok
             & endpoint_test(
                 e,
@@ -155,14 +157,14 @@ fn is_fresh_mailbox(b: Mailbox) -> bool
     ensures { λ r. ⌜ r ≡ isFreshMailbox b ⌝ }
 {
     let nobody = !b.waiter.present & (b.waiter.task.slot == 0) & (b.waiter.task.epoch == 0);
-    !b.live & ring::is_empty(b.ring) & (nobody & (b.send_holders == 0) & !b.ephemeral)
+    !b.is_live() & ring::is_empty(b.ring) & (nobody & (b.send_holders == 0) & !b.ephemeral)
 }
 
 fn mailbox_test(b: Mailbox, below: bool, ends: bool, d: usize) -> bool
     requires { ⌜ d ≤ 8 ⌝ }
     ensures { λ r. ⌜ r ≡ mailboxTest b below ends d ⌝ }
 {
-    if !b.live {
+    if !b.is_live() {
         return is_fresh_mailbox(b);
     }
     below & ends & ring::inner::is_ring(b.ring, d) & waiter_test(b)
@@ -189,8 +191,9 @@ fn mailboxes_ok(m: usize, d: usize, es: [Endpoint; 64], bs: [Mailbox; 32], l: En
     ok
 }
 
+// The answer is the test's, and a table that passes it is sound: its lists have the lengths that their types say.
 pub fn sound(t: Table) -> bool
-    ensures { λ r. ⌜ r ≡ soundTest t ⌝ }
+    ensures { λ r. ⌜ (r ≡ soundTest t) × (r ≡ true → Sound t) ⌝ }
 {
     let z = t.sizes;
     if !in_range(z) {

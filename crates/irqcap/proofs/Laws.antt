@@ -6,7 +6,7 @@ use Prim.Native.Nat.{ℕ, zero, suc}
 use lib.Dec.{lit≤}
 use lib.ListN.{length}
 use Rattle.laws.specs.Pick.{pick}
-use Rattle.laws.specs.Place.{found, lowest, lowestFree}
+use Rattle.laws.specs.Search.{found, lowest, lowestFree}
 use Rattle.cap.specs.declared.CapId.{CapId}
 use Rattle.mint.specs.Entries.{mintWith}
 use Rattle.mint.specs.declared.MintAnswer.the-variants.{Minted, NoFreeEntry}

@@ -1,7 +1,7 @@
 -- Document 01, "Ids and the two mint tables": the IRQ table, 8 entries from base 32,768, never freed.
 use Prim.Native.Nat.{ℕ}
 use lib.ListN.{replicate}
-use Rattle.laws.specs.declared.Place.{Place}
+use Rattle.laws.specs.declared.Found.{Found}
 use Rattle.cap.specs.declared.CapId.{CapId}
 use Rattle.mint.specs.Entry.{noEntry}
 use Rattle.mint.specs.Entries.{freeEntry, mintWith, lookupIn}
@@ -14,7 +14,7 @@ abbrev pub freshTable : Table
 freshTable = record { entries = replicate 8 noEntry }
 
 -- the lowest free entry of a table
-abbrev pub freeEntryOf : Table → Place
+abbrev pub freeEntryOf : Table → Found
 freeEntryOf t = freeEntry 8 (t .entries)
 
 -- a mint for a cookie: the lowest free entry, or none

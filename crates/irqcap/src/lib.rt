@@ -3,7 +3,7 @@ ghost use mathlib.Core.Path.{_≡_};
 ghost use Rattle.irqcap.specs.Table.{freshTable, freeEntryOf, mintOf, lookupOf};
 use cap::CapClass;
 use cap::CapId;
-use laws::Place;
+use laws::Found;
 use mint::Entry;
 use mint::LookupAnswer;
 use mint::MintAnswer;
@@ -31,17 +31,17 @@ pub fn new() -> Table
     }
 }
 
-fn free_entry(t: Table) -> Place
+fn free_entry(t: Table) -> Found
     ensures { λ r. ⌜ r ≡ freeEntryOf t ⌝ }
 {
     let mut i: usize = 0;
     loop {
         if i >= MAX_IRQ_CAPS {
-            break Place::Nowhere;
+            break Found::Nowhere;
         }
         let e = t.entries[i];
         if !e.live {
-            break Place::At(i);
+            break Found::At(i);
         }
         i += 1;
     }
@@ -51,7 +51,7 @@ fn free_entry(t: Table) -> Place
 pub fn mint(mut t: Table, cookie: u32) -> Minted
     ensures { λ r. ⌜ r ≡ mintOf t cookie ⌝ }
 {
-    let Place::At(i) = free_entry(t) else {
+    let Found::At(i) = free_entry(t) else {
         return Minted {
             answer: MintAnswer::NoFreeEntry,
             table: t,

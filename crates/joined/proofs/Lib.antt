@@ -1,3 +1,4 @@
 pub mod Register
 pub mod Ways
 pub mod Calls
+pub mod Shows

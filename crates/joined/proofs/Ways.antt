@@ -14,7 +14,7 @@ use Rattle.capslots.specs.declared.answers.InstallAnswer.the-variants.{Installe
 use Rattle.ipc_sound.specs.Border.{guarded}
 use Rattle.ipc_rules.specs.declared.state.Table.{Table as Channels}
 use Rattle.joined.specs.Answers.{spawnNumber, leaveNumber, giveNumber}
-use Rattle.joined.specs.Steps.{spawnRefused, spawned, spawnOf, leaveRefused, leaves, leaveOf, giveRefused, given, giveOf}
+use Rattle.joined.specs.Steps.{spawnRefused, spawned, spawnOf, leaveRefused, leaves, leaveOf, giveRefused, gives, giveOf}
 use Rattle.joined.specs.declared.answers.Spawning.{Spawning}
 use Rattle.joined.specs.declared.answers.SpawnAnswer.{SpawnAnswer}
 use Rattle.joined.specs.declared.answers.SpawnAnswer.the-variants.{Spawned, BadWord, BadRow}
@@ -43,7 +43,7 @@ module _ (channels : Channels) (rows : Rows) where
 
   pub give-ways : (P : Giving → Type 0) (r s : ℕ) (c : CapId)
       → ((a : give.GiveAnswer) → (a ≡ give.the-variants.Given → ⊥) → P (giveRefused a channels rows))
-      → (installOf rows r s c .answer ≡ Installed → P (given channels rows r s c)) → P (giveOf channels rows r s c)
+      → (installOf rows r s c .answer ≡ Installed → P (gives channels rows r s c)) → P (giveOf channels rows r s c)
   unfolding giveOf
   give-ways P r s c bad done =
       all-installs P (installOf rows r s c .answer) _ _

@@ -9,18 +9,18 @@ use Rattle.joined.specs.declared.answers.LeaveAnswer as leave
 use Rattle.joined.specs.declared.answers.GiveAnswer as give
 
 abbrev pub spawnNumber : spawn.SpawnAnswer → ℕ
-spawnNumber spawn.the-variants.Spawned = no.accepted
+spawnNumber spawn.the-variants.Spawned = no.none
 spawnNumber spawn.the-variants.BadWord = no.badWord
 spawnNumber spawn.the-variants.BadRow = no.badRow
 spawnNumber spawn.the-variants.BadTable = no.badTable
 
 abbrev pub leaveNumber : leave.LeaveAnswer → ℕ
-leaveNumber leave.the-variants.Left = no.accepted
+leaveNumber leave.the-variants.Left = no.none
 leaveNumber leave.the-variants.BadRow = no.badRow
 leaveNumber leave.the-variants.BadTable = no.badTable
 
 abbrev pub giveNumber : give.GiveAnswer → ℕ
-giveNumber give.the-variants.Given = no.accepted
+giveNumber give.the-variants.Given = no.none
 giveNumber give.the-variants.BadSlot = no.badSlot
 giveNumber give.the-variants.BadTable = no.badTable
 

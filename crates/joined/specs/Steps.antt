@@ -60,8 +60,8 @@ abbrev pub giveRefused : give.GiveAnswer → Channels → Rows → Giving
 giveRefused a channels rows = record { answer = a; channels = channels; rows = rows }
 
 -- give installs one id and registers it
-abbrev pub given : Channels → Rows → ℕ → ℕ → CapId → Giving
-given channels rows r s c =
+abbrev pub gives : Channels → Rows → ℕ → ℕ → CapId → Giving
+gives channels rows r s c =
     record { answer = give.the-variants.Given; channels = registered channels (holding c); rows = installOf rows r s c .table }
 
 -- what follows from an install: one thing where it is refused, another where it succeeds
@@ -72,4 +72,4 @@ installs Installed refused done = done
 -- where the install is refused, for a bad row, a bad slot or an occupied one, so is the give (10)
 unfoldable pub giveOf : Channels → Rows → ℕ → ℕ → CapId → Giving
 giveOf channels rows r s c =
-    installs (installOf rows r s c .answer) (giveRefused give.the-variants.BadSlot channels rows) (given channels rows r s c)
+    installs (installOf rows r s c .answer) (giveRefused give.the-variants.BadSlot channels rows) (gives channels rows r s c)

@@ -1,11 +1,14 @@
 // What the joined steps answer, with both tables beside it.
 ghost use mathlib.Core.Path.{_≡_};
-ghost use Rattle.joined.specs.Answers.{spawnNumber, leaveNumber, giveNumber};
+ghost use Rattle.shown.specs.Shown.{shown};
+ghost use Rattle.joined.specs.Answers.{spawnNumber, spawnValues, leaveNumber, leaveValues, giveNumber, giveValues};
 use capslots::Table as Rows;
+use ipc_rules::showing::four_shown;
 use ipc_rules::state::Table as Channels;
 use ipc_rules::state::TaskId;
 use ipc_rules::state::Waiter;
 use laws::refusals;
+use shown::Shown;
 
 pub enum SpawnAnswer {
     Spawned,
@@ -57,11 +60,17 @@ impl SpawnAnswer {
         ensures { λ r. ⌜ r ≡ spawnNumber self ⌝ }
     {
         match self {
-            SpawnAnswer::Spawned => refusals::ACCEPTED,
+            SpawnAnswer::Spawned => refusals::NONE,
             SpawnAnswer::BadWord => refusals::BAD_WORD,
             SpawnAnswer::BadRow => refusals::BAD_ROW,
             SpawnAnswer::BadTable => refusals::BAD_TABLE,
         }
+    }
+
+    pub fn shown(self) -> Shown
+        ensures { λ r. ⌜ r ≡ shown (spawnNumber self) (spawnValues self) ⌝ }
+    {
+        shown::none(self.number())
     }
 }
 
@@ -70,10 +79,20 @@ impl LeaveAnswer {
         ensures { λ r. ⌜ r ≡ leaveNumber self ⌝ }
     {
         match self {
-            LeaveAnswer::Left => refusals::ACCEPTED,
+            LeaveAnswer::Left => refusals::NONE,
             LeaveAnswer::BadRow => refusals::BAD_ROW,
             LeaveAnswer::BadTable => refusals::BAD_TABLE,
         }
+    }
+
+    // The four waiters stand beside the answer.
+    pub fn shown(self, waiters: [Waiter; 4]) -> Shown
+        ensures { λ r. ⌜ r ≡ shown (leaveNumber self) (leaveValues self waiters) ⌝ }
+    {
+        let LeaveAnswer::Left = self else {
+            return shown::none(self.number());
+        };
+        four_shown(waiters)
     }
 }
 
@@ -82,9 +101,15 @@ impl GiveAnswer {
         ensures { λ r. ⌜ r ≡ giveNumber self ⌝ }
     {
         match self {
-            GiveAnswer::Given => refusals::ACCEPTED,
+            GiveAnswer::Given => refusals::NONE,
             GiveAnswer::BadSlot => refusals::BAD_SLOT,
             GiveAnswer::BadTable => refusals::BAD_TABLE,
         }
+    }
+
+    pub fn shown(self) -> Shown
+        ensures { λ r. ⌜ r ≡ shown (giveNumber self) (giveValues self) ⌝ }
+    {
+        shown::none(self.number())
     }
 }

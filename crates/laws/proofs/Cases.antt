@@ -1,14 +1,14 @@
 -- How a choice of a definition is settled, and what holds of each way of one. `cases` closes a function's returns, whatever the
 -- number of its tests. Assumes nothing.
-use mathlib.Core.Path.{_≡_, refl, sym, _∙_}
+use mathlib.Core.Path.{_≡_, refl}
 use mathlib.Core.Bool.{Bool, true, false}
 use Prim.Native.Nat.{ℕ}
 use native.Mathlib.Omega.{arith}
 use borrow.Author.Tests.{lt-ltb, le-ltb, le-leb, lt-leb, eq-eqb, ne-eqb, not-true, not-false}
 use Rattle.laws.specs.Pick.{pick}
-use Rattle.laws.specs.Place.{found}
-use Rattle.laws.specs.declared.Place.{Place}
-use Rattle.laws.specs.declared.Place.the-variants.{At, Nowhere}
+use Rattle.laws.specs.Search.{found}
+use Rattle.laws.specs.declared.Found.{Found}
+use Rattle.laws.specs.declared.Found.the-variants.{At, Nowhere}
 
 module _ {A : Type 0} {r : A} where
   pub yes : {t : Bool} {a : A} (b : A) → t ≡ true → r ≡ a → r ≡ pick t a b
@@ -20,11 +20,11 @@ module _ {A : Type 0} {r : A} where
   no a e h = rw e h
 
   -- q is what the code found, and p what the definition looks for
-  pub nowhere : {q p : Place} {a : A} (f : ℕ → A) → q ≡ p → q ≡ Nowhere → r ≡ a → r ≡ found p a f
+  pub nowhere : {q p : Found} {a : A} (f : ℕ → A) → q ≡ p → q ≡ Nowhere → r ≡ a → r ≡ found p a f
   unfolding found
   nowhere f e n h = rw (← e, n) h
 
-  pub at : {q p : Place} (a : A) (f : ℕ → A) (k : ℕ) → q ≡ p → q ≡ At k → r ≡ f k → r ≡ found p a f
+  pub at : {q p : Found} (a : A) (f : ℕ → A) (k : ℕ) → q ≡ p → q ≡ At k → r ≡ f k → r ≡ found p a f
   unfolding found
   at a f k e n h = rw (← e, n) h
 
@@ -37,7 +37,7 @@ module _ {A : Type 0} (P : A → Type 0) where
   all-pick true a b y n = y refl
   all-pick false a b y n = n refl
 
-  pub all-found : (o : Place) (a : A) (f : ℕ → A) → (o ≡ Nowhere → P a) → ((k : ℕ) → o ≡ At k → P (f k)) → P (found o a f)
+  pub all-found : (o : Found) (a : A) (f : ℕ → A) → (o ≡ Nowhere → P a) → ((k : ℕ) → o ≡ At k → P (f k)) → P (found o a f)
   unfolding found
   all-found Nowhere a f n y = n refl
   all-found (At k) a f n y = y k refl

@@ -1,6 +1,6 @@
 pub mod Cases
 pub mod Search
-pub mod Found
+pub mod Finding
 pub mod Together
 pub mod Every
 pub mod Bools

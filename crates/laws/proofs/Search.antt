@@ -1,5 +1,5 @@
 -- The lowest free place: one turn of a search for it, and what is known of a place that was found. Assumes nothing.
-use mathlib.Core.Path.{_≡_, refl, sym, _∙_}
+use mathlib.Core.Path.{_≡_, _∙_}
 use mathlib.Core.Bool.{Bool, true, false}
 use borrow.Author.Tests.{not-true, not-false}
 use Prim.Native.Nat.{ℕ, zero, suc, _+_, _-_, _≤_, _<_}
@@ -8,9 +8,9 @@ use native.Mathlib.Nat.{eq-or-lt-of-le}
 use native.Mathlib.Numerals.{add-one}
 use native.Mathlib.Omega.{arith}
 use Rattle.laws.specs.Pick.{pick}
-use Rattle.laws.specs.Place.{lowest, lowestFree}
-use Rattle.laws.specs.declared.Place.{Place}
-use Rattle.laws.specs.declared.Place.the-variants.{At, Nowhere}
+use Rattle.laws.specs.Search.{lowest, lowestFree}
+use Rattle.laws.specs.declared.Found.{Found}
+use Rattle.laws.specs.declared.Found.the-variants.{At, Nowhere}
 use Rattle.laws.proofs.Cases.{all-pick}
 
 module _ (used : ℕ → Bool) (i end : ℕ) where
@@ -27,7 +27,7 @@ module _ (used : ℕ → Bool) (i end : ℕ) where
   next h u = let e : end - i ≡ suc (end - suc i) = omega arith in rw (e, u, add-one)
 
 -- a loop `if i >= end { break Nowhere; } if !used(i) { break At(i); } i += 1;` at i, where what is left of the search finds r: it ends at r
-module _ (used : ℕ → Bool) (i end : ℕ) {r : Place} (left : lowestFree used i end ≡ r) where
+module _ (used : ℕ → Bool) (i end : ℕ) {r : Found} (left : lowestFree used i end ≡ r) where
   pub search-ends : end ≤ i → Nowhere ≡ r
   search-ends h = past used i end h ∙ left
 

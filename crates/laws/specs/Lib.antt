@@ -1,4 +1,4 @@
 pub mod Pick
-pub mod Place
+pub mod Search
 pub mod Every
 pub mod Refusals

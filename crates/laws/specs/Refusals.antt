@@ -1,8 +1,8 @@
--- Every no, by number: the numbers of document 01's table, under its names. An answer that is no refusal has the number `accepted`.
+-- Every no, by number: the numbers of document 01's table, under its names. An answer that is no refusal has the number `none`.
 use Prim.Native.Nat.{ℕ}
 
-abbrev pub accepted : ℕ
-accepted = 0
+abbrev pub none : ℕ
+none = 0
 
 abbrev pub badCap : ℕ
 badCap = 1

@@ -3,7 +3,7 @@
 pub mod refusals;
 
 // What a search for the lowest free place finds.
-pub enum Place {
+pub enum Found {
     At(usize),
     Nowhere,
 }

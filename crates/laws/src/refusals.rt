@@ -1,5 +1,5 @@
 // Every no, by number, as specs/Refusals.antt has them.
-pub const ACCEPTED: u8 = 0;
+pub const NONE: u8 = 0;
 
 pub const BAD_CAP: u8 = 1;
 

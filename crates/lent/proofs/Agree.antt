@@ -12,7 +12,7 @@ use Rattle.ipc_rules.specs.declared.state.Table.{Table}
 use Rattle.ipc_rules.specs.declared.answers.NoteAnswer.the-variants.{Noted, BadTable}
 use Rattle.manifest.specs.Bind.{bindSlots, bindOf}
 use Rattle.manifest.specs.declared.AgentEntry.{AgentEntry}
-use Rattle.lent.specs.Counts.{authorityNoted, stateNoted}
+use Rattle.ipc_rules.specs.Counts.{authorityNoted, stateNoted}
 use Rattle.lent.specs.Holds.{registerSlots}
 
 -- ---- lists of words that all read: the same answer and the same table

@@ -8,7 +8,7 @@ use lib.ListN.{getD, length, length-map}
 use Rattle.laws.specs.Pick.{pick}
 use Rattle.laws.proofs.Every.{at-every}
 use Rattle.laws.proofs.Lists.{all-map}
-use Rattle.cap.specs.Slot.{vacant}
+use Rattle.cap.specs.Slot.{vacantSlot}
 use Rattle.cap.specs.Word.{readWord, wordOf, isWord, orVacant, wordsRead, slotsOf}
 use Rattle.cap.specs.declared.slot.Slot.{Slot}
 use Rattle.cap.specs.declared.word.WordAnswer.the-variants.{Reads}
@@ -25,7 +25,7 @@ use Rattle.lent.proofs.Agree.{register-agrees, bind-agrees}
 
 -- what a u32 says of a record's id
 abbrev pub Fits : List Slot → Type 0
-Fits xs = (i : ℕ) → getD xs i vacant .id .raw < 4294967296
+Fits xs = (i : ℕ) → getD xs i vacantSlot .id .raw < 4294967296
 
 -- the words that stand for the records
 abbrev pub wordsOf : List Slot → List ℕ
@@ -33,7 +33,7 @@ wordsOf xs = map wordOf xs
 
 -- a record with nothing in it where it is vacant
 abbrev cleared : Slot → Slot
-cleared x = pick (x .present) x vacant
+cleared x = pick (x .present) x vacantSlot
 
 -- ---- words
 read-back : (x : Slot) → x .id .raw < 4294967296 → readWord (wordOf x) ≡ Reads (cleared x)
@@ -48,7 +48,7 @@ all-read : (xs : List Slot) → Fits xs → wordsRead (wordsOf xs) ≡ true
 unfolding wordOf pick
 all-read xs h =
     at-every (λ i. isWord (getD (wordsOf xs) i 0)) (length (wordsOf xs)) (λ k _.
-    all-map (λ _ w. isWord w ≡ true) wordOf xs vacant 0 refl (λ i. reads-test (wordOf (getD xs i vacant)) (cleared (getD xs i vacant)) (read-back (getD xs i vacant) (h i))) k)
+    all-map (λ _ w. isWord w ≡ true) wordOf xs vacantSlot 0 refl (λ i. reads-test (wordOf (getD xs i vacantSlot)) (cleared (getD xs i vacantSlot)) (read-back (getD xs i vacantSlot) (h i))) k)
 
 back : (xs : List Slot) → Fits xs → slotsOf (wordsOf xs) ≡ map cleared xs
 unfolding slotsOf orVacant
@@ -77,14 +77,14 @@ cleared-choice w x n pool k = by (x .present)
     by true = refl
     by false = refl
 
-cleared-at : (xs : List Slot) (i : ℕ) → getD (map cleared xs) i vacant ≡ cleared (getD xs i vacant)
+cleared-at : (xs : List Slot) (i : ℕ) → getD (map cleared xs) i vacantSlot ≡ cleared (getD xs i vacantSlot)
 unfolding pick
 cleared-at [] i = refl
 cleared-at (x ∷ xs) zero = refl
 cleared-at (x ∷ xs) (suc i) = cleared-at xs i
 
 cleared-slot : (e : AgentEntry) (xs : List Slot) (k : ℕ) → choiceOf e (map cleared xs) k ≡ choiceOf e xs k
-cleared-slot e xs k = rw (cleared-at xs (wantAt e k .index), length-map xs cleared) (cleared-choice (wantAt e k) (getD xs (wantAt e k .index) vacant) (length xs) (e .«packet_pool») k)
+cleared-slot e xs k = rw (cleared-at xs (wantAt e k .index), length-map xs cleared) (cleared-choice (wantAt e k) (getD xs (wantAt e k .index) vacantSlot) (length xs) (e .«packet_pool») k)
 
 cleared-bind : (e : AgentEntry) (xs : List Slot) → bindSlots e (map cleared xs) ≡ bindSlots e xs
 unfolding bindSlots

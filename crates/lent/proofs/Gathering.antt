@@ -9,7 +9,7 @@ use borrow.Author.Tests.{lt-ltb, eq-eqb, ne-eqb}
 use lib.ListN.{length, getD}
 use Rattle.laws.proofs.Cases.{yes, no}
 use Rattle.walks.specs.Over.{over}
-use Rattle.cap.specs.Slot.{vacant}
+use Rattle.cap.specs.Slot.{vacantSlot}
 use Rattle.cap.specs.declared.slot.Slot.{Slot}
 use Rattle.manifest.specs.Bind.{wantAt, choiceFrom, inOrder, bindSlots}
 use Rattle.manifest.specs.declared.Want.{Want}
@@ -87,5 +87,5 @@ bind-same e xs h =
     let n : after 0 xs ≡ length xs = after-is 0 xs (omega arith) ∙ omega arith in
     each-apart (begun e) xs ∙ rw (n, found (wantAt e 0), found (wantAt e 1), found (wantAt e 2), found (wantAt e 3)) refl
   where
-    found : (w : Want) → along w vacant 0 xs ≡ getD xs (w .index) vacant
-    found w = there w vacant 0 xs (omega arith) (omega arith) ∙ ap (λ (n : ℕ). getD xs n vacant) (omega arith)
+    found : (w : Want) → along w vacantSlot 0 xs ≡ getD xs (w .index) vacantSlot
+    found w = there w vacantSlot 0 xs (omega arith) (omega arith) ∙ ap (λ (n : ℕ). getD xs n vacantSlot) (omega arith)

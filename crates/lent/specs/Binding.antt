@@ -5,7 +5,7 @@ use Prim.Native.Nat.{ℕ, _+_}
 use lib.Dec.{eqb, ltb}
 use lib.ListN.{getD}
 use Rattle.laws.specs.Pick.{pick}
-use Rattle.cap.specs.Slot.{vacant, fourVacant}
+use Rattle.cap.specs.Slot.{vacantSlot, fourVacant}
 use Rattle.cap.specs.declared.slot.Slot.{Slot}
 use Rattle.manifest.specs.Bind.{wantAt, choiceFrom, inOrder}
 use Rattle.manifest.specs.declared.Want.{Want}
@@ -24,7 +24,7 @@ taken w found at s = pick (eqb (w .index) at) s found
 
 -- what was found for entry slot k
 abbrev pub foundAt : Gathered → ℕ → Slot
-foundAt g k = getD (g .found) k vacant
+foundAt g k = getD (g .found) k vacantSlot
 
 -- before the first record: nothing was found
 abbrev pub begun : AgentEntry → Gathered

@@ -1,6 +1,6 @@
 // The three refusal counts, lent and raised where they stand.
 ghost use mathlib.Core.Path.{_≡_};
-ghost use Rattle.lent.specs.Counts.{authorityNoted, stateNoted};
+ghost use Rattle.ipc_rules.specs.Counts.{authorityNoted, stateNoted};
 use ipc_parts::counts::raised;
 use ipc_rules::state::Refusals;
 

@@ -29,7 +29,7 @@ fromTail at NoRoom = NoRoom
 
 -- ---- the answer's number and values
 abbrev pub writtenNumber : Written → ℕ
-writtenNumber (Upto n) = no.accepted
+writtenNumber (Upto n) = no.none
 writtenNumber NoRoom = no.noRoom
 
 abbrev pub writtenValues : Written → List ℕ

@@ -5,6 +5,7 @@ ghost use lib.ListN.{take};
 ghost use Rattle.line.specs.Line.{lineOf, endOf, badOf};
 ghost use Rattle.line.specs.Put.{written, putOf, writtenNumber};
 use laws::refusals;
+use shown::Shown;
 
 mod text;
 
@@ -26,7 +27,7 @@ impl Written {
         ensures { λ r. ⌜ r ≡ writtenNumber self ⌝ }
     {
         match self {
-            Written::Upto(_) => refusals::ACCEPTED,
+            Written::Upto(_) => refusals::NONE,
             Written::NoRoom => refusals::NO_ROOM,
         }
     }
@@ -44,20 +45,14 @@ fn put(free: &mut [u8], text: &[u8]) -> Written
     Written::Upto(text.len())
 }
 
-// The line of a record, with the first `count` of the values (there are twelve).
-pub fn write_line(
-    free: &mut [u8],
-    number: u64,
-    op: u64,
-    answer: u64,
-    values: [u64; 12],
-    count: usize,
-) -> Written
-    ensures answer { λ r. ⌜ r ≡ putOf (now (free .entry)) 0 (lineOf number op answer (take count values)) ⌝ }
-    ensures buffer { λ _. ⌜ now (free .exit) ≡ written (now (free .entry)) 0 (lineOf number op answer (take count values)) ⌝ }
+// The line of a record, with what is shown of its answer.
+pub fn write_line(free: &mut [u8], number: u64, op: u64, shown: Shown) -> Written
+    ensures answer { λ r. ⌜ r ≡ putOf (now (free .entry)) 0 (lineOf number op (shown .number) (take (shown .count) (shown .values))) ⌝ }
+    ensures buffer { λ _. ⌜ now (free .exit) ≡ written (now (free .entry)) 0 (lineOf number op (shown .number) (take (shown .count) (shown .values))) ⌝ }
 {
+    let values = shown.values;
     let mut b = [0u8; LONGEST];
-    let n = text::line(&mut b, number, op, answer, values, count);
+    let n = text::line(&mut b, number, op, shown.number as u64, values, shown.count);
     put(free, &b[..n])
 }
 

@@ -8,7 +8,7 @@ use borrow.Author.Tests.{lt-ltb}
 use lib.ListN.{length, List·getD-eq-default}
 use Rattle.laws.specs.Pick.{pick}
 use Rattle.laws.proofs.Every.{at-every}
-use Rattle.cap.specs.Slot.{vacant}
+use Rattle.cap.specs.Slot.{vacantSlot}
 use Rattle.logread.specs.Lists.{entryOk, listOk, listSlot, presenceAt}
 use Rattle.logread.proofs.Numbers.{past}
 
@@ -23,6 +23,6 @@ module _ (log : List ℕ) (at : ℕ) (h : length log ≤ at) where
   unfolding listOk
   list-past = sym (at-every (entryOk log at) 4 (λ i l. entry-past i))
 
-  pub slot-past : (i : ℕ) → i < 4 → vacant ≡ listSlot log at i
+  pub slot-past : (i : ℕ) → i < 4 → vacantSlot ≡ listSlot log at i
   unfolding listSlot pick
   slot-past i l = rw (lt-ltb i 4 l, no-presence i)

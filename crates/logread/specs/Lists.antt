@@ -5,7 +5,7 @@ use Prim.Native.Nat.{ℕ, _+_, _*_}
 use lib.Dec.{eqb, leb, ltb}
 use Rattle.laws.specs.Pick.{pick}
 use Rattle.laws.specs.Every.{every}
-use Rattle.cap.specs.Slot.{vacant, holding}
+use Rattle.cap.specs.Slot.{vacantSlot, holding}
 use Rattle.cap.specs.Word.{wordOf}
 use Rattle.cap.specs.declared.slot.Slot.{Slot}
 use Rattle.logread.specs.Little.{byteAt, littleAt}
@@ -34,8 +34,8 @@ listOk log at = every (entryOk log at) 4
 unfoldable pub listSlot : List ℕ → ℕ → ℕ → Slot
 listSlot log at i =
     pick (ltb i 4)
-    (pick (eqb (presenceAt log at i) 0) vacant (holding (record { raw = rawAt log at i })))
-    vacant
+    (pick (eqb (presenceAt log at i) 0) vacantSlot (holding (record { raw = rawAt log at i })))
+    vacantSlot
 
 -- the list as a row of four slots
 abbrev pub listSlots : List ℕ → ℕ → List Slot

@@ -38,7 +38,7 @@ readOf log =
 
 -- ---- the answer's number and values
 abbrev pub readNumber : Read → ℕ
-readNumber (Whole op len) = no.accepted
+readNumber (Whole op len) = no.none
 readNumber Short = no.short
 readNumber BadMark = no.badMark
 readNumber BadOp = no.badOp

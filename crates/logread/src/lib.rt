@@ -33,7 +33,7 @@ impl Read {
         ensures { λ r. ⌜ r ≡ readNumber self ⌝ }
     {
         match self {
-            Read::Whole { op: _, len: _ } => refusals::ACCEPTED,
+            Read::Whole { op: _, len: _ } => refusals::NONE,
             Read::Short => refusals::SHORT,
             Read::BadMark => refusals::BAD_MARK,
             Read::BadOp => refusals::BAD_OP,

@@ -3,10 +3,10 @@ use mathlib.Core.Bool.{Bool, false, not, _&&_}
 use mathlib.Core.List.{List, [], _∷_}
 use Prim.Native.Nat.{ℕ}
 use lib.ListN.{getD, length}
-use lib.Dec.{leb, ltb}
+use lib.Dec.{leb}
 use Rattle.laws.specs.Pick.{pick}
 use Rattle.laws.specs.Refusals as no
-use Rattle.cap.specs.Slot.{vacant, fourVacant}
+use Rattle.cap.specs.Slot.{vacantSlot, fourVacant}
 use Rattle.cap.specs.Word.{wordsRead, slotsOf}
 use Rattle.cap.specs.declared.slot.Slot.{Slot}
 use Rattle.manifest.specs.declared.Want.{Want}
@@ -25,7 +25,7 @@ wantAt e k = getD (e .slots) k (record { present = false; index = 0 })
 -- an index at or past the held length is refused (16), then one from 3 up without packet pool (17), then a vacant place (18)
 unfoldable pub choiceFrom : Want → Slot → ℕ → Bool → ℕ → Choice
 choiceFrom want found n pool k =
-    pick (not (want .present)) (Takes vacant)
+    pick (not (want .present)) (Takes vacantSlot)
     (pick (leb n (want .index)) (Refuses (NoSuchCapability k (want .index) n))
     (pick (leb 3 (want .index) && not pool) (Refuses (PacketPoolRequired k (want .index)))
     (pick (not (found .present)) (Refuses (HeldVacant k (want .index)))
@@ -33,7 +33,7 @@ choiceFrom want found n pool k =
 
 -- what entry slot k takes from a held list
 abbrev pub choiceOf : AgentEntry → List Slot → ℕ → Choice
-choiceOf e held k = choiceFrom (wantAt e k) (getD held (wantAt e k .index) vacant) (length held) (e .«packet_pool») k
+choiceOf e held k = choiceFrom (wantAt e k) (getD held (wantAt e k .index) vacantSlot) (length held) (e .«packet_pool») k
 
 -- a refused bind gives four vacant places
 abbrev pub refusedBy : BindAnswer → Binding
@@ -58,7 +58,7 @@ unfoldable pub bindOf : AgentEntry → List ℕ → Binding
 bindOf e words = pick (wordsRead words) (bindSlots e (slotsOf words)) (refusedBy BadWord)
 
 abbrev pub bindNumber : BindAnswer → ℕ
-bindNumber Bound = no.accepted
+bindNumber Bound = no.none
 bindNumber (NoSuchCapability k i n) = no.noSuchCapability
 bindNumber (PacketPoolRequired k i) = no.packetPoolRequired
 bindNumber (HeldVacant k i) = no.heldVacant

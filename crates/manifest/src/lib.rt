@@ -37,7 +37,7 @@ impl BindAnswer {
         ensures { λ r. ⌜ r ≡ bindNumber self ⌝ }
     {
         match self {
-            BindAnswer::Bound => refusals::ACCEPTED,
+            BindAnswer::Bound => refusals::NONE,
             BindAnswer::NoSuchCapability {
                 slot: _,
                 index: _,

@@ -5,7 +5,7 @@ use Prim.Native.Nat.{ℕ, _+_, _<_}
 use native.Mathlib.Omega.{arith}
 use borrow.Author.Tests.{eq-eqb, ne-eqb}
 use Rattle.laws.specs.Pick.{pick}
-use Rattle.laws.specs.declared.Place.the-variants.{At}
+use Rattle.laws.specs.declared.Found.the-variants.{At}
 use Rattle.cap.specs.Id.{idOf, indexOf, bit, classOf}
 use Rattle.mint.specs.Entries.{entryOf}
 

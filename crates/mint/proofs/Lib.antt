@@ -4,3 +4,4 @@ pub mod Named
 pub mod Bands
 pub mod Mints
 pub mod Ending
+pub mod Few

@@ -1,5 +1,5 @@
 -- What a lookup answers at each of its tests, where the id's class was read as q. Assumes nothing.
-use mathlib.Core.Path.{_≡_, refl, _∙_}
+use mathlib.Core.Path.{_≡_, refl}
 use mathlib.Core.List.{List, [], _∷_}
 use Prim.Native.Nat.{ℕ, _≤_, _<_}
 use borrow.Author.Tests.{lt-ltb, le-ltb, ne-eqb}
@@ -7,8 +7,8 @@ use lib.Dec.{eqb}
 use types.Run.{OneOf, miss}
 use denote.Enum.Declared.{tagOf}
 use Rattle.laws.specs.Pick.{pick}
-use Rattle.laws.specs.Place.{found}
-use Rattle.laws.specs.declared.Place.the-variants.{At, Nowhere}
+use Rattle.laws.specs.Search.{found}
+use Rattle.laws.specs.declared.Found.the-variants.{At, Nowhere}
 use Rattle.cap.specs.Id.{classOf, generationOf}
 use Rattle.cap.specs.declared.CapId.{CapId}
 use Rattle.cap.specs.declared.CapClass.{CapClass}

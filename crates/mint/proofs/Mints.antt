@@ -8,9 +8,9 @@ use Prim.Native.Nat.{ℕ, _+_, _-_, _≤_, _<_}
 use native.Mathlib.Omega.{arith}
 use lib.ListN.{length, set}
 use lib.Seq.{getD-set-same, getD-set-other}
-use Rattle.laws.specs.Place.{found, lowest, lowestFree}
-use Rattle.laws.specs.declared.Place.{Place}
-use Rattle.laws.specs.declared.Place.the-variants.{At, Nowhere}
+use Rattle.laws.specs.Search.{found, lowestFree}
+use Rattle.laws.specs.declared.Found.{Found}
+use Rattle.laws.specs.declared.Found.the-variants.{At, Nowhere}
 use Rattle.laws.proofs.Cases.{all-found}
 use Rattle.laws.proofs.Search.{Lowest, lowest-at, none-free}
 use Rattle.cap.specs.Id.{idOf, classOf, generationOf}
@@ -56,7 +56,7 @@ mint-tells n base es number k P h =
     (λ i e. h (Minted _) _ (record { at = i; place = lowest-at (isLive es) 0 n i e; answer = refl; entries = refl }))
 
 -- what a mint returns that looked for a free entry and found q
-module _ {A : Type 0} {r : A} (n base : ℕ) (es : List Entry) (number : ℕ) (k : MintAnswer → List Entry → A) {q : Place} (is : q ≡ freeEntry n es) where
+module _ {A : Type 0} {r : A} (n base : ℕ) (es : List Entry) (number : ℕ) (k : MintAnswer → List Entry → A) {q : Found} (is : q ≡ freeEntry n es) where
   pub none-minted : q ≡ Nowhere → r ≡ k NoFreeEntry es → r ≡ mintWith n base es number k
   unfolding mintWith found
   none-minted e h = h ∙ rw (← is, e)

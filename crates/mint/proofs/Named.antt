@@ -7,8 +7,8 @@ use native.Mathlib.Omega.{arith}
 use borrow.Author.Tests.{lt-ltb, ltb-true, eq-eqb, eqb-true}
 use lib.Dec.{eqb, ltb}
 use Rattle.laws.specs.Pick.{pick}
-use Rattle.laws.specs.Place.{found}
-use Rattle.laws.specs.declared.Place.the-variants.{At}
+use Rattle.laws.specs.Search.{found}
+use Rattle.laws.specs.declared.Found.the-variants.{At}
 use Rattle.laws.proofs.Cases.{all-pick, all-found}
 use Rattle.cap.specs.Id.{classOf, generationOf}
 use Rattle.cap.specs.declared.CapId.{CapId}

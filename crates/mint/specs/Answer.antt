@@ -8,7 +8,7 @@ use Rattle.mint.specs.declared.LookupAnswer.{LookupAnswer}
 use Rattle.mint.specs.declared.LookupAnswer.the-variants.{Names, BadCap}
 
 abbrev pub mintNumber : MintAnswer → ℕ
-mintNumber (Minted c) = no.accepted
+mintNumber (Minted c) = no.none
 mintNumber NoFreeEntry = no.noFreeEntry
 
 -- a mint shows the id
@@ -17,7 +17,7 @@ mintValues (Minted c) = c .raw ∷ []
 mintValues NoFreeEntry = []
 
 abbrev pub lookupNumber : LookupAnswer → ℕ
-lookupNumber (Names n) = no.accepted
+lookupNumber (Names n) = no.none
 lookupNumber BadCap = no.badCap
 
 -- a lookup shows the stored number

@@ -5,10 +5,10 @@ use Prim.Native.Nat.{ℕ, _+_}
 use lib.ListN.{getD, set}
 use lib.Dec.{eqb, ltb}
 use Rattle.laws.specs.Pick.{pick}
-use Rattle.laws.specs.Place.{found, lowestFree}
+use Rattle.laws.specs.Search.{found, lowestFree}
 use Rattle.laws.specs.Every.{count}
-use Rattle.laws.specs.declared.Place.{Place}
-use Rattle.laws.specs.declared.Place.the-variants.{At, Nowhere}
+use Rattle.laws.specs.declared.Found.{Found}
+use Rattle.laws.specs.declared.Found.the-variants.{At, Nowhere}
 use Rattle.cap.specs.Id.{idOf, generationOf, classOf}
 use Rattle.cap.specs.declared.CapId.{CapId}
 use Rattle.cap.specs.declared.CapClass.{CapClass}
@@ -30,7 +30,7 @@ abbrev pub isLive : List Entry → ℕ → Bool
 isLive es i = entryAt es i .live
 
 -- the lowest of n entries that is free
-abbrev pub freeEntry : ℕ → List Entry → Place
+abbrev pub freeEntry : ℕ → List Entry → Found
 freeEntry n es = lowestFree (isLive es) 0 n
 
 -- the lowest free entry is minted, and the answer is base + entry with its generation; `k` joins the answer and the entries afterwards
@@ -40,7 +40,7 @@ mintWith n base es number k =
     (λ i. k (Minted (idOf (base + i) (nextGeneration (entryAt es i .generation)))) (set es i (mintedEntry (entryAt es i) number)))
 
 -- the entry that an id of a class names in the table whose ids begin at `base`: 16,384 for tasks, 32,768 for IRQ
-unfoldable pub entryOf : ℕ → CapClass → Place
+unfoldable pub entryOf : ℕ → CapClass → Found
 entryOf base (Endpoint p) = Nowhere
 entryOf base (Task p) = pick (eqb base 16384) (At p) Nowhere
 entryOf base (Irq p) = pick (eqb base 32768) (At p) Nowhere
@@ -58,5 +58,5 @@ abbrev pub endedIn : List Entry → ℕ → List Entry
 endedIn es number = map (afterEnd number) es
 
 -- how many of n entries are a number's
-abbrev pub heldBy : ℕ → List Entry → ℕ → ℕ
-heldBy n es number = count (λ i. isOf (entryAt es i) number) n
+abbrev pub entriesOf : ℕ → List Entry → ℕ → ℕ
+entriesOf n es number = count (λ i. isOf (entryAt es i) number) n

@@ -1,10 +1,12 @@
 // What the two mint tables share: an entry, its generations, and the answers. Ported from irqcap.rs and taskcap.rs.
 ghost use mathlib.Core.Path.{_≡_};
+ghost use Rattle.shown.specs.Shown.{shown};
 ghost use Rattle.mint.specs.Generation.{nextGeneration};
 ghost use Rattle.mint.specs.Entry.{mintedEntry, namesOf, isOf, endedEntry};
-ghost use Rattle.mint.specs.Answer.{mintNumber, lookupNumber};
+ghost use Rattle.mint.specs.Answer.{mintNumber, mintValues, lookupNumber, lookupValues};
 use cap::CapId;
 use laws::refusals;
+use shown::Shown;
 
 // One entry of a mint table. A dead one keeps the generation of its last life, so that an id of that life stays worthless.
 pub struct Entry {
@@ -37,9 +39,19 @@ impl MintAnswer {
         ensures { λ r. ⌜ r ≡ mintNumber self ⌝ }
     {
         match self {
-            MintAnswer::Minted(_) => refusals::ACCEPTED,
+            MintAnswer::Minted(_) => refusals::NONE,
             MintAnswer::NoFreeEntry => refusals::NO_FREE_ENTRY,
         }
+    }
+
+    // What a line shows of it.
+    pub fn shown(self) -> Shown
+        ensures { λ r. ⌜ r ≡ shown (mintNumber self) (mintValues self) ⌝ }
+    {
+        let MintAnswer::Minted(c) = self else {
+            return shown::none(self.number());
+        };
+        shown::one(refusals::NONE, c.raw as u64)
     }
 }
 
@@ -48,9 +60,19 @@ impl LookupAnswer {
         ensures { λ r. ⌜ r ≡ lookupNumber self ⌝ }
     {
         match self {
-            LookupAnswer::Names(_) => refusals::ACCEPTED,
+            LookupAnswer::Names(_) => refusals::NONE,
             LookupAnswer::BadCap => refusals::BAD_CAP,
         }
+    }
+
+    // What a line shows of it.
+    pub fn shown(self) -> Shown
+        ensures { λ r. ⌜ r ≡ shown (lookupNumber self) (lookupValues self) ⌝ }
+    {
+        let LookupAnswer::Names(n) = self else {
+            return shown::none(self.number());
+        };
+        shown::one(refusals::NONE, n as u64)
     }
 }
 

@@ -5,31 +5,35 @@ use mathlib.Core.Bool.{not}
 use lib.Dec.{lit≤, eqb}
 use lib.ListN.{getD}
 use Rattle.laws.proofs.Cases.{all-pick}
+use Rattle.shown.proofs.Few.{Few, none-few}
+use Rattle.cap.proofs.Few.{slot-few}
 use Rattle.capslots.specs.Rows.{getOf, drainOf}
+use Rattle.capslots.proofs.Few.{drain-few, holds-few}
 use Rattle.ipc_rules.specs.Create.{createOf}
 use Rattle.ipc_rules.specs.Send.{sendOf}
 use Rattle.ipc_rules.specs.Receive.{recvOf, parkOf}
-use Rattle.ipc_rules.specs.Observe.{queuedOf, holdersOf}
+use Rattle.ipc_rules.specs.Observe.{queuedOf, holdersOf, refusalsOf}
 use Rattle.ipc_rules.specs.Revoke.{revokeOf}
 use Rattle.ipc_rules.specs.Holds.{releaseOf}
 use Rattle.ipc_rules.specs.Waiters.{clearOf}
 use Rattle.ipc_rules.specs.Sound.{Sound}
+use Rattle.ipc_rules.proofs.Few.{create-few, send-few, recv-few, park-few, queued-few, revoke-few, release-few, holders-few, clear-few, counts-few}
 use Rattle.irqcap.specs.Table as irqs
 use Rattle.taskcap.specs.Table as tasks
+use Rattle.mint.proofs.Few.{mint-few, lookup-few}
 use Rattle.joined.specs.Steps.{leaveOf}
+use Rattle.joined.proofs.Shows.{leave-few}
 use Rattle.logread.specs.Little.{byteAt, littleAt}
 use Rattle.logread.specs.Lists.{listSlots}
 use Rattle.operations.specs.Apply.{applyOf, allDone, unknownDone}
 use Rattle.operations.specs.Channels.{newDone, createDone, sendDone, receiveDone, parkDone, queuedDone, revokeDone, holdersDone, clearDone, noteAuthorityDone, noteStateDone, countsDone}
 use Rattle.operations.specs.Done.{Done}
-use Rattle.operations.specs.Fours.{releaseDone, drainDone, leaveDone}
-use Rattle.operations.specs.Holds.{registerDone}
-use Rattle.operations.specs.Joined.{spawnDone, giveDone}
+use Rattle.operations.specs.Holds.{registerDone, releaseDone}
+use Rattle.operations.specs.Joined.{spawnDone, leaveDone, giveDone}
 use Rattle.operations.specs.Mints.{taskMintDone, taskLookupDone, taskEndDone, irqMintDone, irqLookupDone}
-use Rattle.operations.specs.Rows.{getDone, holdsDone, seedDone, installDone, transferDone}
+use Rattle.operations.specs.Rows.{getDone, holdsDone, seedDone, installDone, transferDone, drainDone}
 use Rattle.operations.specs.Operands.{idAt, taskAt, messageAt}
 use Rattle.operations.specs.declared.Tables.{Tables}
-use Rattle.operations.proofs.Few.{Few, none-few, create-few, send-few, recv-few, park-few, queued-few, revoke-few, release-few, holders-few, clear-few, slot-answer-few, flag-few, slots-few, mint-few, lookup-few, leave-few}
 use Rattle.operations.proofs.Keeps.{new-done-kept, create-done-kept, send-done-kept, receive-done-kept, park-done-kept, revoke-done-kept, register-done-kept, release-done-kept, clear-done-kept, note-authority-done-kept, note-state-done-kept, spawn-done-kept, leave-done-kept, give-done-kept}
 
 -- P holds of every element of a list
@@ -108,12 +112,12 @@ module _ (log : List ℕ) (t : Tables) where
       clear-few (clearOf (t .channels) (taskAt log 3) .answer) ▸
       none-few ▸
       none-few ▸
-      slot-answer-few (getOf (t .rows) (byteAt log 3) (byteAt log 4)) ▸
-      flag-few _ ▸
+      slot-few (getOf (t .rows) (byteAt log 3) (byteAt log 4)) ▸
+      holds-few _ ▸
       none-few ▸
       none-few ▸
       none-few ▸
-      slots-few (drainOf (t .rows) (byteAt log 3) .slots) ▸
+      drain-few (drainOf (t .rows) (byteAt log 3) .slots) ▸
       mint-few (tasks.mintOf (t .tasks) (littleAt log 3 4) .answer) ▸
       lookup-few (tasks.lookupOf (t .tasks) (idAt log 3)) ▸
       lit≤ tt ▸
@@ -122,7 +126,7 @@ module _ (log : List ℕ) (t : Tables) where
       none-few ▸
       leave-few (leaveOf (t .channels) (t .rows) (byteAt log 3) .answer) (leaveOf (t .channels) (t .rows) (byteAt log 3) .waiters) ▸
       none-few ▸
-      lit≤ tt ▸
+      counts-few (refusalsOf (t .channels)) ▸
       end
 
   pub apply-few : (op : ℕ) → Few (applyOf op log t .values)

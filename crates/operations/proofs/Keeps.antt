@@ -13,9 +13,8 @@ use Rattle.ipc_rules.proofs.KeepsRevoke.{revoke-kept}
 use Rattle.joined.proofs.Calls.{spawn-kept, leave-kept, give-kept}
 use Rattle.laws.proofs.Cases.{all-pick}
 use Rattle.operations.specs.Channels.{newDone, createDone, sendDone, receiveDone, parkDone, revokeDone, clearDone, noteAuthorityDone, noteStateDone}
-use Rattle.operations.specs.Holds.{registerDone}
-use Rattle.operations.specs.Fours.{releaseDone, leaveDone}
-use Rattle.operations.specs.Joined.{spawnDone, giveDone}
+use Rattle.operations.specs.Holds.{registerDone, releaseDone}
+use Rattle.operations.specs.Joined.{spawnDone, leaveDone, giveDone}
 use Rattle.operations.specs.Done.{Done}
 use Rattle.operations.specs.declared.Tables.{Tables}
 

@@ -1,23 +1,24 @@
 -- A fresh start: what the log's `new` comes to, by what the channel table's own answers. Assumes nothing.
 use mathlib.Core.Path.{_≡_, sym, ap, _∙_}
 use mathlib.Core.Bool.{true, false}
-use mathlib.Core.List.{List, []}
+use mathlib.Core.List.{List}
 use Prim.Native.Nat.{ℕ}
 use native.Mathlib.Omega.{arith}
 use Rattle.laws.specs.Pick.{pick}
 use Rattle.laws.proofs.Cases.{all-pick}
-use Rattle.laws.specs.Refusals as no
-use Rattle.ipc_rules.specs.Answers.{newNumber}
-use Rattle.ipc_rules.specs.Make.{inRange, sizesOf, newOf}
+use Rattle.shown.specs.Shown.{shown}
+use Rattle.shown.specs.declared.Shown.{Shown}
+use Rattle.ipc_rules.specs.Answers.{newNumber, newValues}
+use Rattle.ipc_rules.specs.State.{sizesOf}
+use Rattle.ipc_rules.specs.Make.{inRange, newOf}
 use Rattle.ipc_rules.specs.declared.answers.New.{New}
 use Rattle.ipc_rules.specs.declared.answers.NewAnswer.{NewAnswer}
 use Rattle.ipc_rules.specs.declared.answers.NewAnswer.the-variants.{Made, BadSizes}
+use Rattle.ipc_rules.specs.declared.state.Sizes.{Sizes}
 use Rattle.logread.specs.Little.{byteAt}
-use Rattle.operations.specs.Values.{held}
-use Rattle.operations.specs.Done.{packed}
+use Rattle.operations.specs.Done.{outcome, packed}
+use Rattle.operations.specs.Operands.{sizesAt}
 use Rattle.operations.specs.Channels.{allFresh, freshBy, newDone}
-use Rattle.operations.specs.declared.values.Values.{Values}
-use Rattle.operations.specs.declared.Outcome.{Outcome}
 use Rattle.operations.specs.declared.Tables.{Tables}
 use Rattle.operations.specs.declared.fresh.Fresh.{Fresh}
 
@@ -42,15 +43,17 @@ module _ (m e d : ℕ) {n : Fresh} (g : n ≡ freshBy (newOf m e d)) where
   unfolding newOf pick
   made-fresh y = rw (g, y)
 
-module _ (log : List ℕ) (t : Tables) {m e d : ℕ} (a : m ≡ byteAt log 3) (b : e ≡ byteAt log 4) (c : d ≡ byteAt log 5) {n : Fresh} (g : n ≡ freshBy (newOf m e d))
-    {v : Values} (q : v ≡ held []) where
-  -- the code keeps the tables
-  pub new-refused : n .answer ≡ BadSizes
-      → _≡_ {A = Outcome} (record { number = no.badSizes; values = v .at; count = v .count; tables = t }) (packed (newDone log t))
-  unfolding newDone pick
-  new-refused h = let f = out-of-range m e d g h in rw (← a, ← b, ← c, f, q)
+-- z are the sizes that the code read, and s what it shows
+module _ (log : List ℕ) (t : Tables) {z : Sizes} (a : z ≡ sizesAt log 3) {n : Fresh} (g : n ≡ freshBy (newOf (z .mailboxes) (z .endpoints) (z .depth)))
+    {s : Shown} (q : s ≡ shown (newNumber (n .answer)) (newValues (n .answer))) where
+  made : n ≡ freshBy (newOf (byteAt log 3) (byteAt log 4) (byteAt log 5))
+  made = g ∙ ap (λ (x : Sizes). freshBy (newOf (x .mailboxes) (x .endpoints) (x .depth))) a
 
-  pub new-made : n .answer ≡ Made
-      → _≡_ {A = Outcome} (record { number = no.accepted; values = v .at; count = v .count; tables = n .tables }) (packed (newDone log t))
+  -- the code keeps the tables
+  pub new-refused : n .answer ≡ BadSizes → outcome s t ≡ packed (newDone log t)
   unfolding newDone pick
-  new-made h = let f = in-range m e d g h in rw (← a, ← b, ← c, f, q, made-fresh m e d g f)
+  new-refused h = rw (out-of-range (byteAt log 3) (byteAt log 4) (byteAt log 5) made h, q, h)
+
+  pub new-made : n .answer ≡ Made → outcome s (n .tables) ≡ packed (newDone log t)
+  unfolding newDone pick
+  new-made h = let f = in-range (byteAt log 3) (byteAt log 4) (byteAt log 5) made h in rw (f, q, h, made-fresh (byteAt log 3) (byteAt log 4) (byteAt log 5) made f)

@@ -4,17 +4,16 @@ use Prim.Native.Nat.{ℕ}
 use lib.ListN.{getD}
 use Rattle.laws.specs.Refusals as no
 use Rattle.operations.specs.Channels.{newDone, createDone, sendDone, receiveDone, parkDone, queuedDone, revokeDone, holdersDone, clearDone, noteAuthorityDone, noteStateDone, countsDone}
-use Rattle.operations.specs.Done.{Done}
-use Rattle.operations.specs.Fours.{releaseDone, drainDone, leaveDone}
-use Rattle.operations.specs.Holds.{registerDone}
-use Rattle.operations.specs.Joined.{spawnDone, giveDone}
+use Rattle.operations.specs.Done.{Done, done}
+use Rattle.operations.specs.Holds.{registerDone, releaseDone}
+use Rattle.operations.specs.Joined.{spawnDone, leaveDone, giveDone}
 use Rattle.operations.specs.Mints.{taskMintDone, taskLookupDone, taskEndDone, irqMintDone, irqLookupDone}
-use Rattle.operations.specs.Rows.{getDone, holdsDone, seedDone, installDone, transferDone}
+use Rattle.operations.specs.Rows.{getDone, holdsDone, seedDone, installDone, transferDone, drainDone}
 use Rattle.operations.specs.declared.Tables.{Tables}
 
 -- a number above 27 is no operation's
 abbrev pub unknownDone : Tables → Done
-unknownDone t = record { number = no.badOp; values = []; tables = t }
+unknownDone t = done no.badOp [] t
 
 -- what each operation comes to, in the order of their numbers
 abbrev pub allDone : List ℕ → Tables → List Done

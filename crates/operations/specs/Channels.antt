@@ -8,10 +8,11 @@ use Rattle.laws.specs.Refusals as no
 use Rattle.capslots.specs.Table as rows
 use Rattle.irqcap.specs.Table as irqs
 use Rattle.taskcap.specs.Table as tasks
-use Rattle.ipc_rules.specs.Answers.{createNumber, createValues, sendNumber, sendValues, recvNumber, recvValues, parkNumber, parkValues, queuedNumber, queuedValues, holdersNumber, holdersValues, revokeNumber, revokeValues, clearNumber, clearValues, noteNumber, countsNumber, countsValues}
+use Rattle.ipc_rules.specs.Answers.{createNumber, createValues, sendNumber, sendValues, recvNumber, recvValues, parkNumber, parkValues, queuedNumber, queuedValues, holdersNumber, holdersValues, revokeNumber, revokeValues, clearNumber, clearValues, noteNumber, noteValues, countsNumber, countsValues}
 use Rattle.ipc_rules.specs.Counts.{noteAuthorityOf, noteStateOf}
 use Rattle.ipc_rules.specs.Create.{createOf}
-use Rattle.ipc_rules.specs.Make.{inRange, sizesOf, freshOf}
+use Rattle.ipc_rules.specs.State.{sizesOf}
+use Rattle.ipc_rules.specs.Make.{inRange, freshOf}
 use Rattle.ipc_rules.specs.Observe.{queuedOf, holdersOf, refusalsOf}
 use Rattle.ipc_rules.specs.Receive.{recvOf, parkOf}
 use Rattle.ipc_rules.specs.Revoke.{revokeOf}
@@ -28,38 +29,38 @@ use Rattle.ipc_rules.specs.declared.answers.Noting.{Noting}
 use Rattle.ipc_rules.specs.declared.answers.QueuedAnswer.{QueuedAnswer}
 use Rattle.ipc_rules.specs.declared.answers.HoldersAnswer.{HoldersAnswer}
 use Rattle.logread.specs.Little.{byteAt}
-use Rattle.operations.specs.Done.{Done, withChannels}
-use Rattle.operations.specs.Operands.{idAt, taskAt, messageAt}
+use Rattle.operations.specs.Done.{Done, done, withChannels}
+use Rattle.operations.specs.Operands.{idAt, taskAt, messageAt, sizesAt}
 use Rattle.operations.specs.declared.Tables.{Tables}
 use Rattle.operations.specs.declared.fresh.Fresh.{Fresh}
 
 -- ---- what a call's answer and table come to
 abbrev pub created : Tables → Creation → Done
-created t r = record { number = createNumber (r .answer); values = createValues (r .answer); tables = withChannels t (r .table) }
+created t r = done (createNumber (r .answer)) (createValues (r .answer)) (withChannels t (r .table))
 
 abbrev pub sent : Tables → Sending → Done
-sent t r = record { number = sendNumber (r .answer); values = sendValues (r .answer); tables = withChannels t (r .table) }
+sent t r = done (sendNumber (r .answer)) (sendValues (r .answer)) (withChannels t (r .table))
 
 abbrev pub received : Tables → Receiving → Done
-received t r = record { number = recvNumber (r .answer); values = recvValues (r .answer); tables = withChannels t (r .table) }
+received t r = done (recvNumber (r .answer)) (recvValues (r .answer)) (withChannels t (r .table))
 
 abbrev pub parked : Tables → Parking → Done
-parked t r = record { number = parkNumber (r .answer); values = parkValues (r .answer); tables = withChannels t (r .table) }
+parked t r = done (parkNumber (r .answer)) (parkValues (r .answer)) (withChannels t (r .table))
 
 abbrev pub queued : Tables → QueuedAnswer → Done
-queued t a = record { number = queuedNumber a; values = queuedValues a; tables = t }
+queued t a = done (queuedNumber a) (queuedValues a) t
 
 abbrev pub revoked : Tables → Revoking → Done
-revoked t r = record { number = revokeNumber (r .answer); values = revokeValues (r .answer); tables = withChannels t (r .table) }
+revoked t r = done (revokeNumber (r .answer)) (revokeValues (r .answer)) (withChannels t (r .table))
 
 abbrev pub holders : Tables → HoldersAnswer → Done
-holders t a = record { number = holdersNumber a; values = holdersValues a; tables = t }
+holders t a = done (holdersNumber a) (holdersValues a) t
 
 abbrev pub cleared : Tables → Clearing → Done
-cleared t r = record { number = clearNumber (r .answer); values = clearValues (r .answer); tables = withChannels t (r .table) }
+cleared t r = done (clearNumber (r .answer)) (clearValues (r .answer)) (withChannels t (r .table))
 
 abbrev pub noted : Tables → Noting → Done
-noted t r = record { number = noteNumber (r .answer); values = []; tables = withChannels t (r .table) }
+noted t r = done (noteNumber (r .answer)) (noteValues (r .answer)) (withChannels t (r .table))
 
 -- every table fresh, the channel table of the sizes given
 abbrev pub allFresh : ℕ → ℕ → ℕ → Tables
@@ -73,9 +74,9 @@ freshBy n = record { answer = n .answer; tables = record { channels = n .table; 
 -- 0, new (m, e, d): every table fresh, or all kept as they were on 20
 unfoldable pub newDone : List ℕ → Tables → Done
 newDone log t =
-    pick (inRange (sizesOf (byteAt log 3) (byteAt log 4) (byteAt log 5)))
-    (record { number = no.accepted; values = []; tables = allFresh (byteAt log 3) (byteAt log 4) (byteAt log 5) })
-    (record { number = no.badSizes; values = []; tables = t })
+    pick (inRange (sizesAt log 3))
+    (done no.none [] (allFresh (byteAt log 3) (byteAt log 4) (byteAt log 5)))
+    (done no.badSizes [] t)
 
 -- 1, create (ephemeral where the flag is not 0)
 unfoldable pub createDone : List ℕ → Tables → Done
@@ -119,4 +120,4 @@ noteStateDone t = noted t (noteStateOf (t .channels))
 
 -- 27, counts
 unfoldable pub countsDone : Tables → Done
-countsDone t = record { number = countsNumber (refusalsOf (t .channels)); values = countsValues (refusalsOf (t .channels)); tables = t }
+countsDone t = done (countsNumber (refusalsOf (t .channels))) (countsValues (refusalsOf (t .channels))) t

@@ -1,4 +1,3 @@
-pub mod Values
 pub mod Done
 pub mod Operands
 pub mod Channels
@@ -6,5 +5,4 @@ pub mod Holds
 pub mod Rows
 pub mod Mints
 pub mod Joined
-pub mod Fours
 pub mod Apply

@@ -1,5 +1,5 @@
 -- Document 01, "The operation log", operations 19 to 23: the calls on the two mint tables. A task is one u32 number here.
-use mathlib.Core.List.{List, [], _∷_}
+use mathlib.Core.List.{List}
 use Prim.Native.Nat.{ℕ}
 use Rattle.laws.specs.Refusals as no
 use Rattle.mint.specs.Answer.{mintNumber, mintValues, lookupNumber, lookupValues}
@@ -10,23 +10,23 @@ use Rattle.taskcap.specs.Table as tasks
 use Rattle.taskcap.specs.declared.Minted.{Minted as TaskMinted}
 use Rattle.taskcap.specs.declared.Revoked.{Revoked}
 use Rattle.logread.specs.Little.{littleAt}
-use Rattle.operations.specs.Done.{Done, withTasks, withIrqs}
+use Rattle.operations.specs.Done.{Done, done, withTasks, withIrqs}
 use Rattle.operations.specs.Operands.{idAt}
 use Rattle.operations.specs.declared.Tables.{Tables}
 
 -- ---- what a call's answer and table come to
 abbrev pub taskMinted : Tables → TaskMinted → Done
-taskMinted t r = record { number = mintNumber (r .answer); values = mintValues (r .answer); tables = withTasks t (r .table) }
+taskMinted t r = done (mintNumber (r .answer)) (mintValues (r .answer)) (withTasks t (r .table))
 
 abbrev pub irqMinted : Tables → IrqMinted → Done
-irqMinted t r = record { number = mintNumber (r .answer); values = mintValues (r .answer); tables = withIrqs t (r .table) }
+irqMinted t r = done (mintNumber (r .answer)) (mintValues (r .answer)) (withIrqs t (r .table))
 
 abbrev pub named : Tables → LookupAnswer → Done
-named t a = record { number = lookupNumber a; values = lookupValues a; tables = t }
+named t a = done (lookupNumber a) (lookupValues a) t
 
--- ending a task shows how many entries it ended
+-- nothing refuses the end of a task
 abbrev pub ended : Tables → Revoked → Done
-ended t r = record { number = no.accepted; values = r .count ∷ []; tables = withTasks t (r .table) }
+ended t r = done no.none (tasks.revokeValues (r .count)) (withTasks t (r .table))
 
 -- ---- the operations
 -- 19, task mint (task)

@@ -2,9 +2,11 @@
 use mathlib.Core.List.{List}
 use Prim.Native.Nat.{ℕ, _+_}
 use Rattle.cap.specs.declared.CapId.{CapId}
+use Rattle.ipc_rules.specs.State.{sizesOf}
 use Rattle.ipc_rules.specs.declared.state.Message.{Message}
+use Rattle.ipc_rules.specs.declared.state.Sizes.{Sizes}
 use Rattle.ipc_rules.specs.declared.state.TaskId.{TaskId}
-use Rattle.logread.specs.Little.{littleAt}
+use Rattle.logread.specs.Little.{byteAt, littleAt}
 
 -- the id at a place
 abbrev pub idAt : List ℕ → ℕ → CapId
@@ -17,3 +19,7 @@ taskAt log at = record { slot = littleAt log at 2; epoch = littleAt log (at + 2)
 -- the message at a place, tag, a and b
 abbrev pub messageAt : List ℕ → ℕ → Message
 messageAt log at = record { tag = littleAt log at 4; a = littleAt log (at + 4) 8; b = littleAt log (at + 12) 8 }
+
+-- the sizes at a place, of mailboxes, endpoints and depth
+abbrev pub sizesAt : List ℕ → ℕ → Sizes
+sizesAt log at = sizesOf (byteAt log at) (byteAt log (at + 1)) (byteAt log (at + 2))

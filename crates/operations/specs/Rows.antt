@@ -1,42 +1,42 @@
--- Document 01, "The operation log", operations 13 to 17: the calls on the rows. Rows and slots are one byte.
+-- Document 01, "The operation log", operations 13 to 18: the calls on the rows. Rows and slots are one byte.
 use mathlib.Core.Bool.{Bool}
-use mathlib.Core.List.{List, [], _∷_}
+use mathlib.Core.List.{List}
 use Prim.Native.Nat.{ℕ}
-use Rattle.laws.specs.Pick.{pick}
 use Rattle.laws.specs.Refusals as no
 use Rattle.cap.specs.Slot.{slotNumber, slotValues}
 use Rattle.cap.specs.declared.slot.SlotAnswer.{SlotAnswer}
-use Rattle.capslots.specs.Answers.{seedNumber, seedValues, installNumber, installValues, transferNumber, transferValues}
-use Rattle.capslots.specs.Rows.{getOf, holdsOf, seedOf, installOf}
+use Rattle.capslots.specs.Answers.{seedNumber, seedValues, installNumber, installValues, transferNumber, transferValues, drainValues, holdsValues}
+use Rattle.capslots.specs.Rows.{getOf, holdsOf, seedOf, installOf, drainOf}
 use Rattle.capslots.specs.Transfer.{transferOf}
 use Rattle.capslots.specs.declared.Seeded.{Seeded}
 use Rattle.capslots.specs.declared.Installed.{Installed}
+use Rattle.capslots.specs.declared.Drained.{Drained}
 use Rattle.capslots.specs.declared.moves.Transferred.{Transferred}
 use Rattle.logread.specs.Little.{byteAt}
 use Rattle.logread.specs.Lists.{listWords}
-use Rattle.operations.specs.Done.{Done, withRows}
+use Rattle.operations.specs.Done.{Done, done, withRows}
 use Rattle.operations.specs.Operands.{idAt}
 use Rattle.operations.specs.declared.Tables.{Tables}
 
 -- ---- what a call's answer and table come to
 abbrev pub got : Tables → SlotAnswer → Done
-got t a = record { number = slotNumber a; values = slotValues a; tables = t }
+got t a = done (slotNumber a) (slotValues a) t
 
 abbrev pub seeded : Tables → Seeded → Done
-seeded t r = record { number = seedNumber (r .answer); values = seedValues (r .answer); tables = withRows t (r .table) }
+seeded t r = done (seedNumber (r .answer)) (seedValues (r .answer)) (withRows t (r .table))
 
 abbrev pub installed : Tables → Installed → Done
-installed t r = record { number = installNumber (r .answer); values = installValues (r .answer); tables = withRows t (r .table) }
+installed t r = done (installNumber (r .answer)) (installValues (r .answer)) (withRows t (r .table))
 
 abbrev pub transferred : Tables → Transferred → Done
-transferred t r = record { number = transferNumber (r .answer); values = transferValues (r .answer); tables = withRows t (r .table) }
+transferred t r = done (transferNumber (r .answer)) (transferValues (r .answer)) (withRows t (r .table))
 
--- yes is 1 and no is 0
-unfoldable pub flagValues : Bool → List ℕ
-flagValues b = pick b (1 ∷ []) (0 ∷ [])
+-- nothing refuses a drain, nor the question whether a row holds an id
+abbrev pub drained : Tables → Drained → Done
+drained t r = done no.none (drainValues (r .slots)) (withRows t (r .table))
 
 abbrev pub told : Tables → Bool → Done
-told t b = record { number = no.accepted; values = flagValues b; tables = t }
+told t b = done no.none (holdsValues b) t
 
 -- ---- the operations
 -- 13, get (row, slot)
@@ -58,3 +58,7 @@ installDone log t = installed t (installOf (t .rows) (byteAt log 3) (byteAt log 
 -- 17, transfer (from row, from slot, to row, to slot)
 unfoldable pub transferDone : List ℕ → Tables → Done
 transferDone log t = transferred t (transferOf (t .rows) (byteAt log 3) (byteAt log 4) (byteAt log 5) (byteAt log 6))
+
+-- 18, drain (row)
+unfoldable pub drainDone : List ℕ → Tables → Done
+drainDone log t = drained t (drainOf (t .rows) (byteAt log 3))

@@ -1,29 +1,31 @@
-// Operation 7: the holds of a list.
+// Operations 7 and 8: the holds of a list, registered and released.
 ghost use mathlib.Core.Path.{_≡_};
 ghost use Rattle.ipc_rules.specs.Sound.{Sound};
 ghost use Rattle.operations.specs.Done.{packed};
-ghost use Rattle.operations.specs.Holds.{registerDone};
+ghost use Rattle.operations.specs.Holds.{registerDone, releaseDone};
 use crate::Outcome;
 use crate::Tables;
-use crate::values;
+use logread::list_slots;
 use logread::list_words;
 
 // 7.
-pub fn op_register(mut t: Tables, log: &[u8]) -> Outcome
+pub fn op_register(t: Tables, log: &[u8]) -> Outcome
     requires { ⌜ Sound (t .channels) ⌝ }
     ensures { λ r. ⌜ r ≡ packed (registerDone (now (log .entry)) t) ⌝ }
 {
     let words = list_words(log, 3);
     let registered = ipc_holds::inner::register_holds(t.channels, &words);
     let answer = registered.answer;
-    let v = values::none();
-    let at = v.at;
-    let channels = registered.table;
-    t.channels = channels;
-    Outcome {
-        number: answer.number(),
-        values: at,
-        count: v.count,
-        tables: t,
-    }
+    t.with_channels(registered.table, answer.shown())
+}
+
+// 8.
+pub fn op_release(t: Tables, log: &[u8]) -> Outcome
+    requires { ⌜ Sound (t .channels) ⌝ }
+    ensures { λ r. ⌜ r ≡ packed (releaseDone (now (log .entry)) t) ⌝ }
+{
+    let released = ipc_holds::inner::release_holds(t.channels, list_slots(log, 3));
+    let answer = released.answer;
+    let waiters = released.waiters;
+    t.with_channels(released.table, answer.shown(waiters))
 }

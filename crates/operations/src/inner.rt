@@ -7,7 +7,6 @@ use crate::Outcome;
 use crate::Tables;
 use crate::channels;
 use crate::counts;
-use crate::fours;
 use crate::holds;
 use crate::joined_steps;
 use crate::messages;
@@ -21,9 +20,7 @@ fn unknown(t: Tables) -> Outcome
     ensures { λ r. ⌜ r ≡ packed (unknownDone t) ⌝ }
 {
     Outcome {
-        number: refusals::BAD_OP,
-        values: [0; 12],
-        count: 0,
+        shown: shown::none(refusals::BAD_OP),
         tables: t,
     }
 }
@@ -54,7 +51,7 @@ pub fn apply(op: u8, t: Tables, log: &[u8]) -> Outcome
             let own = t;
             holds::op_register(own, log)
         }
-        op::RELEASE => fours::op_release(t, log),
+        op::RELEASE => holds::op_release(t, log),
         op::HOLDERS => counts::op_holders(t, log),
         op::CLEAR_WAITER => channels::op_clear_waiter(t, log),
         op::NOTE_AUTHORITY => counts::op_note_authority(t),
@@ -64,14 +61,14 @@ pub fn apply(op: u8, t: Tables, log: &[u8]) -> Outcome
         op::SEED => rows::op_seed(t, log),
         op::INSTALL => rows::op_install(t, log),
         op::TRANSFER => rows::op_transfer(t, log),
-        op::DRAIN => fours::op_drain(t, log),
+        op::DRAIN => rows::op_drain(t, log),
         op::TASK_MINT => mints::op_task_mint(t, log),
         op::TASK_LOOKUP => mints::op_task_lookup(t, log),
         op::TASK_END => mints::op_task_end(t, log),
         op::IRQ_MINT => mints::op_irq_mint(t, log),
         op::IRQ_LOOKUP => mints::op_irq_lookup(t, log),
         op::SPAWN => joined_steps::op_spawn(t, log),
-        op::LEAVE => fours::op_leave(t, log),
+        op::LEAVE => joined_steps::op_leave(t, log),
         op::GIVE => joined_steps::op_give(t, log),
         op::COUNTS => counts::op_counts(t),
         _ => unknown(t),

@@ -12,7 +12,7 @@ use Rattle.laws.specs.Pick.{pick}
 use Rattle.laws.specs.Refusals as no
 use Rattle.laws.proofs.Cases.{all-pick, not-both}
 use Rattle.ipc_rules.specs.Sound.{Sound}
-use Rattle.ipc_rules.specs.Make.{sizesOf}
+use Rattle.ipc_rules.specs.State.{sizesOf}
 use Rattle.ipc_sound.proofs.Decide.{test-of}
 use Rattle.ipc_rules.proofs.Fresh.{in-range-of, fresh-sound}
 use Rattle.line.specs.Put.{written, putOf}

@@ -1,10 +1,10 @@
 -- The ways of a step: each fault, a line without room, a record taken. Assumes nothing.
-use mathlib.Core.Path.{_≡_, refl, sym, ap}
-use mathlib.Core.List.{List, [], _∷_, _++_}
-use Prim.Native.Nat.{ℕ, zero, suc, _+_, _-_, _<_, _≤_}
-use native.Mathlib.Nat.{not-suc-le-zero, le-of-suc-le-suc}
+use mathlib.Core.Path.{_≡_, refl, sym}
+use mathlib.Core.List.{List, _++_}
+use Prim.Native.Nat.{ℕ, _+_, _-_, _<_, _≤_}
 use native.Mathlib.Omega.{arith}
 use lib.ListN.{length, take, drop}
+use Rattle.shown.proofs.Read.{shown-read}
 use Rattle.line.specs.Line.{lineOf}
 use Rattle.line.specs.Put.{written, putOf, fromTail}
 use Rattle.line.specs.declared.Written.{Written}
@@ -13,7 +13,6 @@ use Rattle.line.proofs.Room as room
 use Rattle.logread.specs.Read.{readOf}
 use Rattle.logread.specs.declared.Read as read
 use Rattle.operations.specs.Done.{packed}
-use Rattle.operations.specs.Values.{padded}
 use Rattle.operations.specs.Apply.{applyOf}
 use Rattle.operations.specs.declared.Tables.{Tables}
 use Rattle.operations.specs.declared.Outcome.{Outcome}
@@ -21,16 +20,6 @@ use Rattle.operations.proofs.Applied.{apply-few}
 use Rattle.oplog.specs.Step.{reading, writing, textOf, refusedStep, stepOf, stepOut}
 use Rattle.oplog.specs.declared.StepAnswer.the-variants.{Took, Short, BadMark, BadOp, BadOperand, NoRoom}
 use Rattle.oplog.specs.declared.Stepped.{Stepped}
-
--- the values that are shown are those that the operation gave
-padded-shown : (n : ℕ) (vs : List ℕ) → length vs ≤ n → take (length vs) (padded n vs) ≡ vs
-unfolding padded
-padded-shown n [] h = refl
-padded-shown zero (v ∷ vs) h = absurd (not-suc-le-zero h)
-padded-shown (suc n) (v ∷ vs) h = ap (λ (l : List ℕ). v ∷ l) (padded-shown n vs (le-of-suc-le-suc h))
-
-shown : (vs : List ℕ) → length vs ≤ 12 → take (length vs) (padded 12 vs) ≡ vs
-shown = padded-shown 12
 
 module _ (log out : List ℕ) (number at : ℕ) (t : Tables) where
   pub short : readOf log ≡ read.the-variants.Short → (refusedStep at t Short ≡ stepOf log number out at t) × (out ≡ stepOut log number out at t)
@@ -52,10 +41,10 @@ module _ (log out : List ℕ) (number at : ℕ) (t : Tables) where
   -- d is what the operation came to
   module _ (op len : ℕ) (er : readOf log ≡ read.the-variants.Whole op len) (d : Outcome) (ed : d ≡ packed (applyOf op log t)) where
     abbrev line : List ℕ
-    line = lineOf number op (d .number) (take (d .count) (d .values))
+    line = lineOf number op (d .shown .number) (take (d .shown .count) (d .shown .values))
 
     text : line ≡ textOf number op (applyOf op log t)
-    text = rw (ed, shown (applyOf op log t .values) (apply-few log t op))
+    text = rw (ed, shown-read (applyOf op log t .number) (applyOf op log t .values) (apply-few log t op))
 
     -- what the step comes to, from what writing the line comes to
     left-is : {left : List ℕ} → left ≡ written out at line → left ≡ stepOut log number out at t

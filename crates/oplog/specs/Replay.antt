@@ -34,7 +34,7 @@ filled a at p out = record { part = record { answer = a; at = at; place = p }; b
 
 -- the last line: 0 says that nothing is left of the log, another number is the fault's
 unfoldable pub lastLine : ℕ → ℕ → ℕ → List ℕ
-lastLine number offset done = pick (eqb number no.accepted) (endOf done) (badOf offset number)
+lastLine number offset done = pick (eqb number no.none) (endOf done) (badOf offset number)
 
 -- that line after what stands before `at`, or left for another buffer where it has no room
 unfoldable pub lastOf : List ℕ → ℕ → ℕ → ℕ → Place → Filled

@@ -25,7 +25,7 @@ unfoldable pub runFrom : ℕ → ℕ → List ℕ → ℕ → List ℕ → ℕ �
 runFrom all zero rest done out at t = ended Took all done at t out
 runFrom all (suc k) rest done out at t =
     pick (ltb 0 (length rest))
-    (pick (eqb (stepNumber (stepOf rest (done + 1) out at t .answer)) no.accepted)
+    (pick (eqb (stepNumber (stepOf rest (done + 1) out at t .answer)) no.none)
     (runFrom all k (drop (stepOf rest (done + 1) out at t .used) rest) (done + 1) (stepOut rest (done + 1) out at t)
     (stepOf rest (done + 1) out at t .at) (stepOf rest (done + 1) out at t .tables))
     (ended (stepOf rest (done + 1) out at t .answer) (all - length rest) done at t (stepOut rest (done + 1) out at t)))

@@ -17,7 +17,7 @@ use Rattle.oplog.specs.declared.StepAnswer.the-variants.{Took, Short, Ba
 use Rattle.oplog.specs.declared.Stepped.{Stepped}
 
 abbrev pub stepNumber : StepAnswer → ℕ
-stepNumber Took = no.accepted
+stepNumber Took = no.none
 stepNumber Short = no.short
 stepNumber BadMark = no.badMark
 stepNumber BadOp = no.badOp

@@ -36,7 +36,7 @@ unfoldable pub textFrom : ℕ → List ℕ → ℕ → ℕ → Tables → List �
 textFrom zero rest offset done t = endOf done
 textFrom (suc k) rest offset done t =
     pick (ltb 0 (length rest))
-    (pick (eqb (stepNumber (saidOf rest (done + 1) t .answer)) no.accepted)
+    (pick (eqb (stepNumber (saidOf rest (done + 1) t .answer)) no.none)
     (saidOf rest (done + 1) t .text ++ textFrom k (drop (saidOf rest (done + 1) t .used) rest) (offset + saidOf rest (done + 1) t .used) (done + 1) (saidOf rest (done + 1) t .tables))
     (badOf offset (stepNumber (saidOf rest (done + 1) t .answer))))
     (endOf done)

@@ -46,7 +46,7 @@ pub fn step(log: &[u8], number: u64, out: &mut [u8], at: usize, t: Tables) -> St
         },
         Read::Whole { op, len } => {
             let done = operations::inner::apply(op, t, log);
-            let values = done.values;
+            let shown = done.shown;
             let after = done.tables;
             if out.len() < at {
                 return Stepped {
@@ -56,14 +56,7 @@ pub fn step(log: &[u8], number: u64, out: &mut [u8], at: usize, t: Tables) -> St
                     tables: t,
                 };
             }
-            match line::write_line(
-                &mut out[at..],
-                number,
-                op as u64,
-                done.number as u64,
-                values,
-                done.count,
-            ) {
+            match line::write_line(&mut out[at..], number, op as u64, shown) {
                 Written::Upto(n) => Stepped {
                     answer: StepAnswer::Took,
                     used: len,

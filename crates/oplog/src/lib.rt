@@ -27,7 +27,7 @@ impl StepAnswer {
         ensures { λ r. ⌜ r ≡ stepNumber self ⌝ }
     {
         match self {
-            StepAnswer::Took => refusals::ACCEPTED,
+            StepAnswer::Took => refusals::NONE,
             StepAnswer::Short => refusals::SHORT,
             StepAnswer::BadMark => refusals::BAD_MARK,
             StepAnswer::BadOp => refusals::BAD_OP,

@@ -53,7 +53,7 @@ fn write_last(free: &mut [u8], number: u8, offset: usize, done: u64) -> Written
     ensures answer { λ r. ⌜ r ≡ putOf (now (free .entry)) 0 (lastLine number offset done) ⌝ }
     ensures buffer { λ _. ⌜ now (free .exit) ≡ written (now (free .entry)) 0 (lastLine number offset done) ⌝ }
 {
-    if number == refusals::ACCEPTED {
+    if number == refusals::NONE {
         return line::write_end(free, done);
     }
     line::write_bad(free, offset as u64, number as u64)

@@ -1,12 +1,16 @@
 // Task ids: 32 entries over task numbers, freed when the task ends. Ported from taskcap.rs.
 ghost use mathlib.Core.Path.{_≡_};
-ghost use Rattle.taskcap.specs.Table.{freshTable, freeEntryOf, mintOf, lookupOf, revokeOf};
+ghost use Rattle.laws.specs.Refusals.{none};
+ghost use Rattle.shown.specs.Shown.{shown};
+ghost use Rattle.taskcap.specs.Table.{freshTable, freeEntryOf, mintOf, lookupOf, revokeOf, revokeValues};
 use cap::CapClass;
 use cap::CapId;
-use laws::Place;
+use laws::Found;
+use laws::refusals;
 use mint::Entry;
 use mint::LookupAnswer;
 use mint::MintAnswer;
+use shown::Shown;
 
 // How many task ids may be live at once: a bound of its own, below the number of tasks.
 pub const MAX_TASK_CAPS: usize = 32;
@@ -37,17 +41,17 @@ pub fn new() -> Table
     }
 }
 
-fn free_entry(t: Table) -> Place
+fn free_entry(t: Table) -> Found
     ensures { λ r. ⌜ r ≡ freeEntryOf t ⌝ }
 {
     let mut i: usize = 0;
     loop {
         if i >= MAX_TASK_CAPS {
-            break Place::Nowhere;
+            break Found::Nowhere;
         }
         let e = t.entries[i];
         if !e.live {
-            break Place::At(i);
+            break Found::At(i);
         }
         i += 1;
     }
@@ -57,7 +61,7 @@ fn free_entry(t: Table) -> Place
 pub fn mint(mut t: Table, task: u32) -> Minted
     ensures { λ r. ⌜ r ≡ mintOf t task ⌝ }
 {
-    let Place::At(i) = free_entry(t) else {
+    let Found::At(i) = free_entry(t) else {
         return Minted {
             answer: MintAnswer::NoFreeEntry,
             table: t,
@@ -101,4 +105,11 @@ pub fn revoke_task(mut t: Table, task: u32) -> Revoked
         i += 1;
     }
     Revoked { count, table: t }
+}
+
+// What the end of a task shows of how many entries it ended. Nothing refuses it.
+pub fn revoke_shown(count: u32) -> Shown
+    ensures { λ r. ⌜ r ≡ shown none (revokeValues count) ⌝ }
+{
+    shown::one(refusals::NONE, count as u64)
 }

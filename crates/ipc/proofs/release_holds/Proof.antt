@@ -1,25 +1,18 @@
 -- `ipc::release_holds` meets its contract: the test, and the call on a table that passed it. Assumes nothing.
 use borrow.Author.Needs.{needs}
-use Rattle.laws.proofs.Lists.{unmapped}
-use Rattle.ipc_rules.specs.State.{Shape}
+use Rattle.laws.proofs.Together.{_·_}
 use Rattle.ipc_sound.proofs.Guards.{refused, served, passed}
 use Rattle.ipc.proofs.release_holds.Statement.{statement}
 use Rattle.ipc.proofs.release_holds.Tie as tie
-
-shape : (c : tie.Start) → Shape (c .args .t)
-shape c = record { endpoints = search (needs, unmapped); mailboxes = search (needs, unmapped); messages = search (needs, unmapped) }
-
-sound-requires : tie.Need-sound-requires
-sound-requires c κs = search needs
 
 returns : tie.Need-returns
 returns c = search (refused, needs)
 
 release-holds-requires : tie.Need-release-holds-requires
-release-holds-requires c κs = passed _ (c .before .sound .ensures) (shape (c .before .before)) (c .if1 .left)
+release-holds-requires c κs = passed _ (c .before .sound .ensures) (c .if1 .left)
 
 returns-2 : tie.Need-returns-2
 returns-2 c = served _ (c .before .before .sound .ensures) _ (c .before .if1 .left) (c .release-holds .ensures)
 
 pub release-holds-spec : {M : Type 1} → statement M
-release-holds-spec = tie.close (tie.spec sound-requires returns release-holds-requires returns-2)
+release-holds-spec = tie.close (tie.spec · (search needs) · returns · release-holds-requires · returns-2)

@@ -10,37 +10,37 @@ use ipc_rules::answers::CreateAnswer;
 use ipc_rules::answers::Creation;
 use ipc_rules::state::Channel;
 use ipc_rules::state::Table;
-use laws::Place;
+use laws::Found;
 
-fn free_mailbox(t: Table) -> Place
+fn free_mailbox(t: Table) -> Found
     requires { ⌜ Sound t ⌝ }
     ensures { λ r. ⌜ r ≡ freeMailbox t ⌝ }
 {
     let mut i: usize = 0;
     loop {
         if i >= t.sizes.mailboxes {
-            break Place::Nowhere;
+            break Found::Nowhere;
         }
         let b = t.mailboxes[i];
-        if !b.live {
-            break Place::At(i);
+        if !b.is_live() {
+            break Found::At(i);
         }
         i += 1;
     }
 }
 
-fn free_endpoint(t: Table, from: usize) -> Place
+fn free_endpoint(t: Table, from: usize) -> Found
     requires { ⌜ Sound t ⌝ }
     ensures { λ r. ⌜ r ≡ freeEndpoint t from ⌝ }
 {
     let mut i = from;
     loop {
         if i >= t.sizes.endpoints {
-            break Place::Nowhere;
+            break Found::Nowhere;
         }
         let ep = t.endpoints[i];
-        if !ep.live {
-            break Place::At(i);
+        if !ep.is_live() {
+            break Found::At(i);
         }
         i += 1;
     }
@@ -51,19 +51,19 @@ pub fn create(mut t: Table, ephemeral: bool) -> Creation
     requires { ⌜ Sound t ⌝ }
     ensures { λ r. ⌜ r ≡ createOf t ephemeral ⌝ }
 {
-    let Place::At(k) = free_mailbox(t) else {
+    let Found::At(k) = free_mailbox(t) else {
         return Creation {
             answer: CreateAnswer::NoMailbox,
             table: t,
         };
     };
-    let Place::At(s) = free_endpoint(t, 0) else {
+    let Found::At(s) = free_endpoint(t, 0) else {
         return Creation {
             answer: CreateAnswer::NoEndpoint,
             table: t,
         };
     };
-    let Place::At(r) = free_endpoint(t, s + 1) else {
+    let Found::At(r) = free_endpoint(t, s + 1) else {
         return Creation {
             answer: CreateAnswer::NoEndpoint,
             table: t,

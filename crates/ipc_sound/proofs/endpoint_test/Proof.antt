@@ -1,20 +1,20 @@
 -- `sound::endpoint_test` computes `endpointTest`. Assumes nothing.
-use Rattle.laws.proofs.Cases.{cases}
+use mathlib.Core.Path.{refl, sym, _∙_}
+use borrow.Author.Tests.{not-true}
+use Rattle.laws.proofs.Together.{_·_, _·²_}
+use Rattle.laws.proofs.Cases.{no, cases}
 use Rattle.ipc_sound.specs.SoundTest.{endpointTest}
 use borrow.Author.Needs.{needs}
 use Rattle.ipc_sound.proofs.endpoint_test.Statement.{statement}
 use Rattle.ipc_sound.proofs.endpoint_test.Tie as tie
 
-is-fresh-endpoint-requires : tie.Need-is-fresh-endpoint-requires
-is-fresh-endpoint-requires c κs = search needs
-
 returns : tie.Need-returns
 unfolding endpointTest
-returns c = rw (c .is-fresh-endpoint .ensures) (search cases)
+returns c = rw (c .is-fresh-endpoint .ensures) (no _ (sym (c .before .before .is-live .ensures) ∙ not-true _ (c .before .if1 .taken)) refl)
 
 returns-2 : tie.Need-returns-2
 unfolding endpointTest
-returns-2 c = search cases
+returns-2 c = rw (← c .before .before .before .before .before .is-live .ensures) (search cases)
 
 pub endpoint-test-spec : {M : Type 1} → statement M
-endpoint-test-spec = tie.close (tie.spec is-fresh-endpoint-requires returns returns-2)
+endpoint-test-spec = tie.close (tie.spec ·² (search needs) · returns · returns-2)

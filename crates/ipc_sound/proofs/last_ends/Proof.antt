@@ -1,6 +1,7 @@
 -- `sound::last_ends`: the invariant is that the last ends below `i` are remembered. The measure is what is left. Assumes nothing.
 use Prim.Native.Nat.{_≤_, _-_}
 use native.Mathlib.Omega.{arith}
+use Rattle.laws.proofs.Together.{_·_, _·⁶_}
 use Rattle.cap.specs.Rights.{sendRight, receiveRight}
 use Rattle.ipc_sound.specs.SoundTest.{Remembers}
 use Rattle.ipc_sound.proofs.LastEnds.{remembers-none, remembers-more, remembers-all}
@@ -16,24 +17,6 @@ abbrev μ-loop : tie.MeasureT-loop
 
 loop-holds : tie.Need-loop-holds Inv-loop μ-loop
 loop-holds c = (omega arith, remembers-none _ _, remembers-none _ _)
-
-mul-e : tie.Need-mul-e Inv-loop μ-loop
-mul-e c = search needs
-
-array-copy-out-e : tie.Need-array-copy-out-e Inv-loop μ-loop
-array-copy-out-e c = search needs
-
-noted-requires : tie.Need-noted-requires Inv-loop μ-loop
-noted-requires c κs = search needs
-
-noted-requires-2 : tie.Need-noted-requires-2 Inv-loop μ-loop
-noted-requires-2 c κs = search needs
-
-add-i : tie.Need-add-i Inv-loop μ-loop
-add-i c = search needs
-
-loop-less : tie.Need-loop-less Inv-loop μ-loop
-loop-less c = search needs
 
 loop-again : tie.Need-loop-again Inv-loop μ-loop
 loop-again c =
@@ -51,16 +34,4 @@ returns c =
 
 pub last-ends-spec : {M : Type 1} → statement M
 last-ends-spec =
-    tie.close
-    (tie.spec
-    Inv-loop
-    μ-loop
-    loop-holds
-    mul-e
-    array-copy-out-e
-    noted-requires
-    noted-requires-2
-    add-i
-    loop-less
-    loop-again
-    returns)
+    tie.close (tie.spec Inv-loop μ-loop loop-holds ·⁶ (search needs) · loop-again · returns)

@@ -1,28 +1,21 @@
 -- `sound::mailbox_test` computes `mailboxTest`. Assumes nothing.
-use Rattle.laws.proofs.Cases.{cases}
+use mathlib.Core.Path.{sym, _∙_}
+use borrow.Author.Tests.{not-true}
+use Rattle.laws.proofs.Together.{_·_, _·²_}
+use Rattle.laws.proofs.Cases.{no, cases}
 use Rattle.ipc_sound.specs.SoundTest.{mailboxTest}
 use borrow.Author.Needs.{needs}
 use Rattle.ipc_sound.proofs.mailbox_test.Statement.{statement}
 use Rattle.ipc_sound.proofs.mailbox_test.Tie as tie
 
-is-fresh-mailbox-requires : tie.Need-is-fresh-mailbox-requires
-is-fresh-mailbox-requires c κs = search needs
-
 returns : tie.Need-returns
 unfolding mailboxTest
-returns c = search cases
-
-is-ring-requires : tie.Need-is-ring-requires
-is-ring-requires c κs = search needs
-
-waiter-test-requires : tie.Need-waiter-test-requires
-waiter-test-requires c κs = search needs
+returns c = no _ (sym (c .before .before .is-live .ensures) ∙ not-true _ (c .before .if1 .taken)) (c .is-fresh-mailbox .ensures)
 
 returns-2 : tie.Need-returns-2
 unfolding mailboxTest
-returns-2 c = rw (c .before .is-ring .ensures, c .waiter-test .ensures) (search cases)
+returns-2 c = rw (c .before .is-ring .ensures, c .waiter-test .ensures, ← c .before .before .before .is-live .ensures) (search cases)
 
 pub mailbox-test-spec : {M : Type 1} → statement M
 mailbox-test-spec =
-    tie.close
-    (tie.spec is-fresh-mailbox-requires returns is-ring-requires waiter-test-requires returns-2)
+    tie.close (tie.spec ·² (search needs) · returns ·² (search needs) · returns-2)

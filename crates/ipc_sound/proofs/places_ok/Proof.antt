@@ -2,6 +2,7 @@
 use mathlib.Core.Path.{_≡_}
 use Prim.Native.Nat.{_≤_, _-_}
 use native.Mathlib.Omega.{arith}
+use Rattle.laws.proofs.Together.{_·_, _·⁸_}
 use Rattle.laws.specs.Every.{every}
 use Rattle.laws.proofs.Every.{every-none, every-step, every-done}
 use Rattle.ipc_sound.specs.SoundTest.{placeOk}
@@ -18,47 +19,13 @@ abbrev μ-loop : tie.MeasureT-loop
 loop-holds : tie.Need-loop-holds Inv-loop μ-loop
 loop-holds c = (omega arith, every-none _)
 
-mul-m : tie.Need-mul-m Inv-loop μ-loop
-mul-m c = search needs
-
-element-copy-out-m : tie.Need-element-copy-out-m Inv-loop μ-loop
-element-copy-out-m c = search needs
-
-mul-b : tie.Need-mul-b Inv-loop μ-loop
-mul-b c = search needs
-
-element-copy-out-b : tie.Need-element-copy-out-b Inv-loop μ-loop
-element-copy-out-b c = search needs
-
-place-test-requires : tie.Need-place-test-requires Inv-loop μ-loop
-place-test-requires c κs = search needs
-
-add-i : tie.Need-add-i Inv-loop μ-loop
-add-i c = search needs
-
-loop-less : tie.Need-loop-less Inv-loop μ-loop
-loop-less c = search needs
-
 loop-again : tie.Need-loop-again Inv-loop μ-loop
 unfolding placeOk
-loop-again c = let h = c .before .before .before .before in (omega arith, every-step (placeOk (h .before .args .t1)) (h .loop .i) _ _ (h .loop .inv .1) (c .place-test .ensures))
+loop-again c = let h = c .before .before .before .before .before in (omega arith, every-step (placeOk (h .before .args .t1)) (h .loop .i) _ _ (h .loop .inv .1) (rw (c .before .is-live .ensures) at (c .place-test .ensures)))
 
 returns : tie.Need-returns Inv-loop μ-loop
 returns c = every-done _ _ 256 _ (c .before .loop .inv .0) (omega arith) (c .before .loop .inv .1)
 
 pub places-ok-spec : {M : Type 1} → statement M
 places-ok-spec =
-    tie.close
-    (tie.spec
-    Inv-loop
-    μ-loop
-    loop-holds
-    mul-m
-    element-copy-out-m
-    mul-b
-    element-copy-out-b
-    place-test-requires
-    add-i
-    loop-less
-    loop-again
-    returns)
+    tie.close (tie.spec Inv-loop μ-loop loop-holds ·⁸ (search needs) · loop-again · returns)

@@ -1,15 +1,25 @@
--- `sound::sound` computes `soundTest`. Assumes nothing.
+-- `sound::sound` computes `soundTest`, and what passes it is sound. Assumes nothing.
 use mathlib.Core.Path.{_≡_, sym, _∙_}
-use mathlib.Core.Bool.{true, false}
+use mathlib.Core.Bool.{Bool, true, false}
 use Prim.Native.Nat.{_≤_}
 use borrow.Author.Tests.{not-true, not-false}
+use Rattle.laws.proofs.Lists.{unmapped}
+use Rattle.ipc_rules.specs.State.{Shape}
 use Rattle.ipc_rules.specs.Make.{inRange}
+use Rattle.ipc_rules.specs.Sound.{Sound}
 use Rattle.ipc_sound.specs.SoundTest.{soundTest}
 use Rattle.ipc_rules.specs.declared.state.Table.{Table}
 use Rattle.ipc_rules.proofs.Fresh.{in-range-of}
+use Rattle.ipc_sound.proofs.Decide.{sound-of}
 use borrow.Author.Needs.{needs}
 use Rattle.ipc_sound.proofs.sound.Statement.{statement}
 use Rattle.ipc_sound.proofs.sound.Tie as tie
+
+shape : (c : tie.Start) → Shape (c .args .t)
+shape c = record { endpoints = search (needs, unmapped); mailboxes = search (needs, unmapped); messages = search (needs, unmapped) }
+
+told : (t : Table) {q : Bool} → Shape t → q ≡ soundTest t → (q ≡ soundTest t) × (q ≡ true → Sound t)
+told t s e = (e, λ y. sound-of t s (sym e ∙ y))
 
 refused : (t : Table) → inRange (t .sizes) ≡ false → false ≡ soundTest t
 unfolding soundTest
@@ -25,7 +35,7 @@ in-range-requires : tie.Need-in-range-requires
 in-range-requires c κs = search needs
 
 returns : tie.Need-returns
-returns c = refused _ (sym (c .before .in-range .ensures) ∙ not-true _ (c .if1 .taken))
+returns c = told _ (shape (c .before .before .before)) (refused _ (sym (c .before .in-range .ensures) ∙ not-true _ (c .if1 .taken)))
 
 last-ends-requires : tie.Need-last-ends-requires
 last-ends-requires c κs = search needs
@@ -41,7 +51,9 @@ places-ok-requires c κs = search needs
 
 returns-2 : tie.Need-returns-2
 unfolding soundTest
-returns-2 c = simp (c .places-ok .ensures, c .before .mailboxes-ok .ensures, c .before .before .endpoints-ok .ensures, in-range (c .before .before .before .before .before .before .before))
+returns-2 c =
+    told _ (shape (c .before .before .before .before .before .before .before .before .before .before))
+    (simp (c .places-ok .ensures, c .before .mailboxes-ok .ensures, c .before .before .endpoints-ok .ensures, in-range (c .before .before .before .before .before .before .before)))
 
 pub sound-spec : {M : Type 1} → statement M
 sound-spec =

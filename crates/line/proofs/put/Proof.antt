@@ -1,4 +1,5 @@
 -- `line::put` meets its contract. Assumes nothing.
+use Rattle.laws.proofs.Together.{_·_, _·²_}
 use Rattle.line.proofs.Room.{no-room, copied}
 use borrow.Author.Needs.{needs}
 use Rattle.line.proofs.put.Statement.{statement}
@@ -7,14 +8,8 @@ use Rattle.line.proofs.put.Tie as tie
 returns : tie.Need-returns
 returns c = let a = c .before .before .before .args in no-room (a .free .now) 0 (a .text .now) (search needs)
 
-copy-requires : tie.Need-copy-requires
-copy-requires c κs = search needs
-
-same-length : tie.Need-same-length
-same-length c = search needs
-
 returns-2 : tie.Need-returns-2
 returns-2 c = rw (c .before .before .copy .ensures .1) (copied _ _ (search needs))
 
 pub put-spec : {M : Type 1} → statement M
-put-spec = tie.close (tie.spec returns copy-requires same-length returns-2)
+put-spec = tie.close (tie.spec returns ·² (search needs) · returns-2)

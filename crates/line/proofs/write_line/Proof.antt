@@ -3,46 +3,24 @@ use mathlib.Core.Path.{sym}
 use native.Mathlib.Omega.{arith}
 use lib.ListN.{take}
 use lib.Seq.{length-take-le}
+use Rattle.laws.proofs.Together.{_·_, _·²_, _·⁴_}
 use Rattle.line.proofs.Room.{from-buffer}
 use borrow.Author.Needs.{needs}
 use Rattle.line.proofs.write_line.Statement.{statement}
 use Rattle.line.proofs.write_line.Tie as tie
-
-slice-aggregate-line : tie.Need-slice-aggregate-line
-slice-aggregate-line c = search needs
-
-line-requires : tie.Need-line-requires
-line-requires c κs = search needs
-
-array-share-prefix-b : tie.Need-array-share-prefix-b
-array-share-prefix-b c = search needs
 
 slice-aggregate-put : tie.Need-slice-aggregate-put
 slice-aggregate-put c =
     let t = c .before .before .before .line in
     sym (length-take-le (t .result) (t .last .0) (omega (arith, t .kept .0, t .ensures .0)))
 
-put-requires : tie.Need-put-requires
-put-requires c κs = search needs
-
-same-length : tie.Need-same-length
-same-length c = search needs
-
 returns : tie.Need-returns
 returns c =
-    let a = c .before .before .before .before .before .before .before .before .before .args in
+    let a = c .before .before .before .before .before .before .before .before .before .before .before .args in
     let t = c .before .before .before .before .before .before .line in
     let p = c .before .before .put in
     from-buffer (a .free .now) (p .last .0) 0 _ (take (t .result) (t .last .0)) (p .result) (t .ensures .1) (p .ensures .0) (p .ensures .1)
 
 pub write-line-spec : {M : Type 1} → statement M
 write-line-spec =
-    tie.close
-    (tie.spec
-    slice-aggregate-line
-    line-requires
-    array-share-prefix-b
-    slice-aggregate-put
-    put-requires
-    same-length
-    returns)
+    tie.close (tie.spec ·⁴ (search needs) · slice-aggregate-put ·² (search needs) · returns)

@@ -3,6 +3,7 @@ use mathlib.Core.Path.{_≡_}
 use mathlib.Core.List.{List}
 use Prim.Native.Nat.{ℕ}
 use lib.ListN.{length}
+use Rattle.laws.proofs.Together.{_·_, _·²_, _·⁹_}
 use Rattle.cap.specs.Word.{slotAt, slotsOf}
 use Rattle.cap.proofs.Words.{slots-at, slots-length}
 use Rattle.manifest.specs.declared.AgentEntry.{AgentEntry}
@@ -24,42 +25,9 @@ unfolding bindSlots
 by-words e words h f g k l =
     rw (slots-length, slots-at words (wantAt e 0 .index), slots-at words (wantAt e 1 .index), slots-at words (wantAt e 2 .index), slots-at words (wantAt e 3 .index)) (cc)
 
-words-read-requires : tie.Need-words-read-requires
-words-read-requires c κs = search needs
-
-refused-requires : tie.Need-refused-requires
-refused-requires c κs = search needs
-
 returns : tie.Need-returns
 unfolding bindOf
 returns c = rw (← c .before .before .words-read .ensures) (search cases)
-
-element-copy-out-choose-word : tie.Need-element-copy-out-choose-word
-element-copy-out-choose-word c = search needs
-
-choose-word-requires : tie.Need-choose-word-requires
-choose-word-requires c κs = search needs
-
-element-copy-out-choose-word-2 : tie.Need-element-copy-out-choose-word-2
-element-copy-out-choose-word-2 c = search needs
-
-choose-word-requires-2 : tie.Need-choose-word-requires-2
-choose-word-requires-2 c κs = search needs
-
-element-copy-out-choose-word-3 : tie.Need-element-copy-out-choose-word-3
-element-copy-out-choose-word-3 c = search needs
-
-choose-word-requires-3 : tie.Need-choose-word-requires-3
-choose-word-requires-3 c κs = search needs
-
-element-copy-out-choose-word-4 : tie.Need-element-copy-out-choose-word-4
-element-copy-out-choose-word-4 c = search needs
-
-choose-word-requires-4 : tie.Need-choose-word-requires-4
-choose-word-requires-4 c κs = search needs
-
-in-order-requires : tie.Need-in-order-requires
-in-order-requires c κs = search needs
 
 returns-2 : tie.Need-returns-2
 unfolding bindOf
@@ -69,18 +37,4 @@ returns-2 c =
 
 pub bind-spec : {M : Type 1} → statement M
 bind-spec =
-    tie.close
-    (tie.spec
-    words-read-requires
-    refused-requires
-    returns
-    element-copy-out-choose-word
-    choose-word-requires
-    element-copy-out-choose-word-2
-    choose-word-requires-2
-    element-copy-out-choose-word-3
-    choose-word-requires-3
-    element-copy-out-choose-word-4
-    choose-word-requires-4
-    in-order-requires
-    returns-2)
+    tie.close (tie.spec ·² (search needs) · returns ·⁹ (search needs) · returns-2)

@@ -1,4 +1,5 @@
 -- `manifest::choose` meets its contract: its tests come in the rule's order. Assumes nothing.
+use Rattle.laws.proofs.Together.{_·_}
 use Rattle.laws.proofs.Cases.{cases}
 use Rattle.manifest.specs.Bind.{choiceFrom}
 use borrow.Author.Needs.{needs}
@@ -8,9 +9,6 @@ use Rattle.manifest.proofs.choose.Tie as tie
 returns : tie.Need-returns
 unfolding choiceFrom
 returns c = search cases
-
-cast-place : tie.Need-cast-place
-cast-place c = search needs
 
 returns-2 : tie.Need-returns-2
 unfolding choiceFrom
@@ -29,4 +27,4 @@ unfolding choiceFrom
 returns-5 c = search cases
 
 pub choose-spec : {M : Type 1} → statement M
-choose-spec = tie.close (tie.spec returns cast-place returns-2 returns-3 returns-4 returns-5)
+choose-spec = tie.close (tie.spec returns · (search needs) · returns-2 · returns-3 · returns-4 · returns-5)

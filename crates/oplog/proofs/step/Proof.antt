@@ -1,14 +1,9 @@
 -- `oplog::step` meets its contract: the test, and the step on tables that passed it. Assumes nothing.
 use mathlib.Core.Path.{refl}
 use borrow.Author.Needs.{needs}
-use Rattle.laws.proofs.Lists.{unmapped}
-use Rattle.ipc_rules.specs.State.{Shape}
 use Rattle.ipc_sound.proofs.Guards.{refused, served, passed}
 use Rattle.oplog.proofs.step.Statement.{statement}
 use Rattle.oplog.proofs.step.Tie as tie
-
-shape : (c : tie.Start) → Shape (c .args .t .channels)
-shape c = record { endpoints = search (needs, unmapped); mailboxes = search (needs, unmapped); messages = search (needs, unmapped) }
 
 sound-requires : tie.Need-sound-requires
 sound-requires c κs = search needs
@@ -17,7 +12,7 @@ returns : tie.Need-returns
 returns c = (refused _ (c .before .sound .ensures) _ (c .if1 .taken) refl, refused _ (c .before .sound .ensures) _ (c .if1 .taken) refl)
 
 step-requires : tie.Need-step-requires
-step-requires c κs = passed _ (c .before .before .sound .ensures) (shape (c .before .before .before .before .before .before)) (c .before .if1 .left)
+step-requires c κs = passed _ (c .before .before .sound .ensures) (c .before .if1 .left)
 
 same-length : tie.Need-same-length
 same-length c = search needs

@@ -1,12 +1,10 @@
 -- `cap::CapId::classify` meets its contract. Assumes nothing.
+use Rattle.laws.proofs.Together.{_·_}
 use Rattle.laws.proofs.Cases.{cases}
 use Rattle.cap.specs.Id.{classOf}
 use borrow.Author.Needs.{needs}
 use Rattle.cap.proofs.CapId.classify.Statement.{statement}
 use Rattle.cap.proofs.CapId.classify.Tie as tie
-
-index-requires : tie.Need-index-requires
-index-requires c κs = search needs
 
 returns : tie.Need-returns
 unfolding classOf
@@ -25,4 +23,4 @@ unfolding classOf
 returns-4 c = rw (← c .before .before .index .ensures) (search cases)
 
 pub classify-spec : {M : Type 1} → statement M
-classify-spec = tie.close (tie.spec index-requires returns returns-2 returns-3 returns-4)
+classify-spec = tie.close (tie.spec · (search needs) · returns · returns-2 · returns-3 · returns-4)

@@ -1,4 +1,5 @@
 -- `cap::slot::from_slot` meets its contract. Assumes nothing.
+use Rattle.laws.proofs.Together.{_·_, _·²_}
 use Rattle.laws.proofs.Cases.{cases}
 use Rattle.cap.specs.Slot.{fromSlot}
 use borrow.Author.Needs.{needs}
@@ -9,12 +10,6 @@ returns : tie.Need-returns
 unfolding fromSlot
 returns c = search cases
 
-mul-held : tie.Need-mul-held
-mul-held c = search needs
-
-array-copy-out-held : tie.Need-array-copy-out-held
-array-copy-out-held c = search needs
-
 returns-2 : tie.Need-returns-2
 unfolding fromSlot
 returns-2 c = search cases
@@ -24,4 +19,4 @@ unfolding fromSlot
 returns-3 c = search cases
 
 pub from-slot-spec : {M : Type 1} → statement M
-from-slot-spec = tie.close (tie.spec returns mul-held array-copy-out-held returns-2 returns-3)
+from-slot-spec = tie.close (tie.spec returns ·² (search needs) · returns-2 · returns-3)

@@ -1,4 +1,5 @@
 -- `cap::word::read_word` meets its contract. Assumes nothing.
+use Rattle.laws.proofs.Together.{_·_}
 use Rattle.laws.proofs.Cases.{cases}
 use Rattle.cap.specs.Word.{readWord}
 use borrow.Author.Needs.{needs}
@@ -13,12 +14,9 @@ returns-2 : tie.Need-returns-2
 unfolding readWord
 returns-2 c = search cases
 
-cast-t6 : tie.Need-cast-t6
-cast-t6 c = search needs
-
 returns-3 : tie.Need-returns-3
 unfolding readWord
 returns-3 c = search cases
 
 pub read-word-spec : {M : Type 1} → statement M
-read-word-spec = tie.close (tie.spec returns returns-2 cast-t6 returns-3)
+read-word-spec = tie.close (tie.spec returns returns-2 · (search needs) · returns-3)

@@ -5,8 +5,9 @@ use Prim.Native.Nat.{ℕ, _≤_}
 use denote.Ref.{now}
 use borrow.Author.Needs.{needs}
 use lib.ListN.{length, List·getD-eq-default}
+use Rattle.laws.proofs.Together.{_·_, _·⁵_}
 use Rattle.laws.specs.Pick.{pick}
-use Rattle.cap.specs.Slot.{vacant}
+use Rattle.cap.specs.Slot.{vacantSlot}
 use Rattle.cap.specs.Word.{readWord, orVacant, slotAt}
 use Rattle.cap.specs.declared.slot.Slot.{Slot}
 use Rattle.cap.specs.declared.word.WordAnswer.{WordAnswer}
@@ -15,11 +16,11 @@ use Rattle.cap.proofs.word.slot_at.Statement.{statement}
 use Rattle.cap.proofs.word.slot_at.Tie as tie
 
 -- past the list's end stands the word 0, which is vacant
-past : (l : List ℕ) (i : ℕ) → length l ≤ i → vacant ≡ slotAt l i
+past : (l : List ℕ) (i : ℕ) → length l ≤ i → vacantSlot ≡ slotAt l i
 unfolding orVacant readWord pick
 past l i h = rw (List·getD-eq-default l 0 h)
 
-refused : {q : WordAnswer} (w : ℕ) → q ≡ readWord w → q ≡ BadWord → vacant ≡ orVacant (readWord w)
+refused : {q : WordAnswer} (w : ℕ) → q ≡ readWord w → q ≡ BadWord → vacantSlot ≡ orVacant (readWord w)
 unfolding orVacant
 refused w e n = rw (← e, n)
 
@@ -30,21 +31,6 @@ read w e n = rw (← e, n)
 returns : tie.Need-returns
 returns c = past (now (c .before .before .args .list)) (c .before .before .args .i) (c .if1 .taken)
 
-mul-read-word : tie.Need-mul-read-word
-mul-read-word c = search needs
-
-shared-slice-read-read-word : tie.Need-shared-slice-read-read-word
-shared-slice-read-read-word c = search needs
-
-read-word-requires : tie.Need-read-word-requires
-read-word-requires c κs = search needs
-
-enum-known-held : tie.Need-enum-known-held
-enum-known-held c = search needs
-
-enum-told : tie.Need-enum-told
-enum-told c = search needs
-
 returns-2 : tie.Need-returns-2
 returns-2 c = search (refused)
 
@@ -53,13 +39,4 @@ returns-3 c = search (read)
 
 pub slot-at-spec : {M : Type 1} → statement M
 slot-at-spec =
-    tie.close
-    (tie.spec
-    returns
-    mul-read-word
-    shared-slice-read-read-word
-    read-word-requires
-    enum-known-held
-    enum-told
-    returns-2
-    returns-3)
+    tie.close (tie.spec returns ·⁵ (search needs) · returns-2 · returns-3)

@@ -5,6 +5,7 @@ use mathlib.Core.List.{List}
 use Prim.Native.Nat.{ℕ, _-_, _≤_}
 use borrow.Author.Needs.{needs}
 use lib.ListN.{length, getD}
+use Rattle.laws.proofs.Together.{_·_, _·⁴_}
 use Rattle.laws.specs.Every.{every}
 use Rattle.laws.proofs.Every.{every-none, every-step, every-done}
 use Rattle.cap.specs.Word.{isWord}
@@ -23,18 +24,6 @@ abbrev μ-loop : tie.MeasureT-loop
 loop-holds : tie.Need-loop-holds Inv-loop μ-loop
 loop-holds c = (search needs, every-none _)
 
-mul-word : tie.Need-mul-word Inv-loop μ-loop
-mul-word c = search needs
-
-shared-slice-read-word : tie.Need-shared-slice-read-word Inv-loop μ-loop
-shared-slice-read-word c = search needs
-
-add-i : tie.Need-add-i Inv-loop μ-loop
-add-i c = search needs
-
-loop-less : tie.Need-loop-less Inv-loop μ-loop
-loop-less c = search needs
-
 loop-again : tie.Need-loop-again Inv-loop μ-loop
 loop-again c = (search needs, every-step _ _ _ _ (c .before .before .loop .inv .1) refl)
 
@@ -43,5 +32,4 @@ returns c = every-done _ _ _ _ (search needs) (search needs) (c .before .loop .i
 
 pub words-read-spec : {M : Type 1} → statement M
 words-read-spec =
-    tie.close
-    (tie.spec Inv-loop μ-loop loop-holds mul-word shared-slice-read-word add-i loop-less loop-again returns)
+    tie.close (tie.spec Inv-loop μ-loop loop-holds ·⁴ (search needs) · loop-again · returns)

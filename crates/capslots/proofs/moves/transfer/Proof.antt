@@ -6,6 +6,7 @@ use mathlib.Core.List.{[], _∷_}
 use Prim.Native.Nat.{_<_}
 use native.Mathlib.Omega.{arith}
 use types.Run.{miss}
+use Rattle.laws.proofs.Together.{_·_, _·²_, _·⁴_}
 use Rattle.laws.proofs.Cases.{cases}
 use Rattle.capslots.specs.Transfer.{transferOf}
 use Rattle.capslots.proofs.Reach.{inside, stopped, Reaches, reaches}
@@ -30,12 +31,6 @@ way c = record {
   to-row = omega arith;
 }
 
-transfer-bounds-requires : tie.Need-transfer-bounds-requires
-transfer-bounds-requires c κs = search needs
-
-enum-told : tie.Need-enum-told
-enum-told c = search needs
-
 returns : tie.Need-returns
 returns c =
     stopped _ _ _ _ _ _ (c .before .transfer-bounds .ensures) (λ e. miss (1 ∷ 2 ∷ 3 ∷ 4 ∷ 5 ∷ []) 0 tt (rw e at (c .match .keys2)))
@@ -48,12 +43,6 @@ returns-3 : tie.Need-returns-3
 unfolding transferOf
 returns-3 c = search (cases, from-inside, to-inside)
 
-mul-from : tie.Need-mul-from
-mul-from c = search needs
-
-element-copy-out-from : tie.Need-element-copy-out-from
-element-copy-out-from c = search needs
-
 mul-held : tie.Need-mul-held
 mul-held c = omega (arith, from-inside (c .before .before .before))
 
@@ -64,9 +53,6 @@ returns-4 : tie.Need-returns-4
 unfolding transferOf
 returns-4 c = search (cases, from-inside, to-inside)
 
-is-endpoint-requires : tie.Need-is-endpoint-requires
-is-endpoint-requires c κs = search needs
-
 returns-5 : tie.Need-returns-5
 unfolding transferOf
 returns-5 c = rw (← c .before .is-endpoint .ensures) (search (cases, from-inside, to-inside) depth 12)
@@ -74,12 +60,6 @@ returns-5 c = rw (← c .before .is-endpoint .ensures) (search (cases, from-insi
 returns-6 : tie.Need-returns-6
 unfolding transferOf
 returns-6 c = rw (← c .before .before .is-endpoint .ensures) (search (cases, from-inside, to-inside) depth 12)
-
-mul-there : tie.Need-mul-there
-mul-there c = search needs
-
-element-copy-out-there : tie.Need-element-copy-out-there
-element-copy-out-there c = search needs
 
 mul-if6 : tie.Need-mul-if6
 mul-if6 c = omega (arith, to-inside (c .before .before .before .before .before .before .before .before .before .before .before))
@@ -96,63 +76,15 @@ mul-vacant c = omega (arith, from-inside (c .before .before .before .before .bef
 element-set-from-vacant : tie.Need-element-set-from-vacant
 element-set-from-vacant c = omega (arith, from-inside (c .before .before .before .before .before .before .before .before .before .before .before .before))
 
-mul-to : tie.Need-mul-to
-mul-to c = search needs
-
-element-set-from-to : tie.Need-element-set-from-to
-element-set-from-to c = search needs
-
-mul-to-2 : tie.Need-mul-to-2
-mul-to-2 c = search needs
-
-element-copy-out-to : tie.Need-element-copy-out-to
-element-copy-out-to c = search needs
-
 mul-t23 : tie.Need-mul-t23
 mul-t23 c = omega (arith, to-inside (c .before .before .before .before .before .before .before .before .before .before .before .before .before))
 
 element-set-from-to-2 : tie.Need-element-set-from-to-2
 element-set-from-to-2 c = omega (arith, to-inside (c .before .before .before .before .before .before .before .before .before .before .before .before .before))
 
-mul-t23-2 : tie.Need-mul-t23-2
-mul-t23-2 c = search needs
-
-element-set-from-t : tie.Need-element-set-from-t
-element-set-from-t c = search needs
-
 returns-8 : tie.Need-returns-8
 returns-8 c = rw (reaches _ _ _ _ _ (way (c .before .before .before))) (search cases)
 
 pub transfer-spec : {M : Type 1} → statement M
 transfer-spec =
-    tie.close
-    (tie.spec
-    transfer-bounds-requires
-    enum-told
-    returns
-    returns-2
-    returns-3
-    mul-from
-    element-copy-out-from
-    mul-held
-    element-copy-out-held
-    returns-4
-    is-endpoint-requires
-    returns-5
-    returns-6
-    mul-there
-    element-copy-out-there
-    mul-if6
-    element-copy-out-if6
-    returns-7
-    mul-vacant
-    element-set-from-vacant
-    mul-to
-    element-set-from-to
-    mul-to-2
-    element-copy-out-to
-    mul-t23
-    element-set-from-to-2
-    mul-t23-2
-    element-set-from-t
-    returns-8)
+    tie.close (tie.spec ·² (search needs) · returns · returns-2 · returns-3 ·² (search needs) · mul-held · element-copy-out-held · returns-4 · (search needs) · returns-5 · returns-6 ·² (search needs) · mul-if6 · element-copy-out-if6 · returns-7 · mul-vacant · element-set-from-vacant ·⁴ (search needs) · mul-t23 · element-set-from-to-2 ·² (search needs) · returns-8)

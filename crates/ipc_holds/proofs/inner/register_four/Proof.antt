@@ -1,9 +1,10 @@
 -- `ipc_holds::inner::register_four` meets its contract: a turn of `Turns` for each of the four slots. Assumes nothing.
 use mathlib.Core.Path.{_≡_, refl}
-use Prim.Native.Nat.{ℕ, _-_, _≤_}
+use Prim.Native.Nat.{_-_, _≤_}
 use native.Mathlib.Omega.{arith}
 use borrow.Author.Needs.{needs}
 use lib.ListN.{length}
+use Rattle.laws.proofs.Together.{_·_, _·²_}
 use Rattle.laws.proofs.Lists.{unmapped}
 use Rattle.ipc_holds.proofs.Turns.{Registers, none-yet, turn, done}
 use Rattle.ipc_holds.proofs.inner.register_four.Statement.{statement}
@@ -21,20 +22,8 @@ four c = search (needs, unmapped)
 loop-holds : tie.Need-loop-holds Inv-loop μ-loop
 loop-holds c = (search needs, none-yet _ _ (c .pre))
 
-mul-register-one : tie.Need-mul-register-one Inv-loop μ-loop
-mul-register-one c = search needs
-
-array-copy-out-register-one : tie.Need-array-copy-out-register-one Inv-loop μ-loop
-array-copy-out-register-one c = search needs
-
 register-one-requires : tie.Need-register-one-requires Inv-loop μ-loop
 register-one-requires c κs = c .before .before .loop .inv .1 .sound
-
-add-i : tie.Need-add-i Inv-loop μ-loop
-add-i c = search needs
-
-loop-less : tie.Need-loop-less Inv-loop μ-loop
-loop-less c = search needs
 
 loop-again : tie.Need-loop-again Inv-loop μ-loop
 loop-again c = (search needs, turn _ _ _ _ _ _ (omega (arith, four (c .before .before .before .before), c .before .before .loop-test .taken)) refl (c .register-one .ensures) (c .before .before .before .loop .inv .1))
@@ -44,15 +33,4 @@ returns c = done _ _ _ _ (omega (arith, four (c .before .before))) (c .before .l
 
 pub register-four-spec : {M : Type 1} → statement M
 register-four-spec =
-    tie.close
-    (tie.spec
-    Inv-loop
-    μ-loop
-    loop-holds
-    mul-register-one
-    array-copy-out-register-one
-    register-one-requires
-    add-i
-    loop-less
-    loop-again
-    returns)
+    tie.close (tie.spec Inv-loop μ-loop loop-holds ·² (search needs) · register-one-requires ·² (search needs) · loop-again · returns)

@@ -1,10 +1,11 @@
 -- `ipc_holds::inner::register_holds` meets its contract: a turn of `Turns` for each word of the list. Assumes nothing.
-use mathlib.Core.Path.{_≡_, sym, ap, _∙_}
-use Prim.Native.Nat.{ℕ, _-_, _≤_}
+use mathlib.Core.Path.{sym, ap, _∙_}
+use Prim.Native.Nat.{_-_, _≤_}
 use borrow.Author.Needs.{needs}
 use borrow.Author.Tests.{not-false}
 use denote.Ref.{now}
 use lib.ListN.{length}
+use Rattle.laws.proofs.Together.{_·_, _·²_}
 use Rattle.laws.proofs.Cases.{cases, yes}
 use Rattle.cap.specs.Word.{slotsOf}
 use Rattle.cap.proofs.Words.{slots-at, slots-length}
@@ -21,9 +22,6 @@ Inv-loop t₀ list n₀ t n = (n ≤ length list) × Registers t₀ (slotsOf lis
 abbrev μ-loop : tie.MeasureT-loop
 μ-loop t₀ list n₀ t n = length list - n
 
-words-read-requires : tie.Need-words-read-requires Inv-loop μ-loop
-words-read-requires c κs = search needs
-
 returns : tie.Need-returns Inv-loop μ-loop
 unfolding registerOf
 returns c = rw (← c .before .words-read .ensures) (search cases)
@@ -31,17 +29,8 @@ returns c = rw (← c .before .words-read .ensures) (search cases)
 loop-holds : tie.Need-loop-holds Inv-loop μ-loop
 loop-holds c = (search needs, none-yet _ _ (c .before .before .before .pre))
 
-slot-at-requires : tie.Need-slot-at-requires Inv-loop μ-loop
-slot-at-requires c κs = search needs
-
 register-one-requires : tie.Need-register-one-requires Inv-loop μ-loop
 register-one-requires c κs = c .before .before .loop .inv .1 .sound
-
-add-n : tie.Need-add-n Inv-loop μ-loop
-add-n c = search needs
-
-loop-less : tie.Need-loop-less Inv-loop μ-loop
-loop-less c = search needs
 
 loop-again : tie.Need-loop-again Inv-loop μ-loop
 loop-again c =
@@ -56,16 +45,4 @@ returns-2 c =
 
 pub register-holds-spec : {M : Type 1} → statement M
 register-holds-spec =
-    tie.close
-    (tie.spec
-    Inv-loop
-    μ-loop
-    words-read-requires
-    returns
-    loop-holds
-    slot-at-requires
-    register-one-requires
-    add-n
-    loop-less
-    loop-again
-    returns-2)
+    tie.close (tie.spec Inv-loop μ-loop · (search needs) · returns · loop-holds · (search needs) · register-one-requires ·² (search needs) · loop-again · returns-2)

@@ -4,6 +4,7 @@ use Prim.Native.Nat.{ℕ}
 use native.Mathlib.Omega.{arith}
 use borrow.Author.Needs.{needs}
 use borrow.Author.Tests.{not-true, not-false}
+use Rattle.laws.proofs.Together.{_·_, _·⁷_}
 use Rattle.cap.specs.declared.slot.Slot.{Slot}
 use Rattle.ipc_rules.specs.State.{mailboxAt, withMailbox}
 use Rattle.ipc_rules.specs.Opening.{holdOf}
@@ -36,27 +37,6 @@ inside c = hold-within _ _ _ (c .before .before .before .before .before .before 
 returns : tie.Need-returns
 returns c = skipped _ _ (hold-vacant _ _ (not-true _ (c .if1 .taken))) refl
 
-index-requires : tie.Need-index-requires
-index-requires c κs = search needs
-
-cast-i : tie.Need-cast-i
-cast-i c = search needs
-
-mul-ep : tie.Need-mul-ep
-mul-ep c = search needs
-
-element-copy-out-ep : tie.Need-element-copy-out-ep
-element-copy-out-ep c = search needs
-
-open-requires : tie.Need-open-requires
-open-requires c κs = search needs
-
-enum-known-k : tie.Need-enum-known-k
-enum-known-k c = search needs
-
-enum-told : tie.Need-enum-told
-enum-told c = search needs
-
 returns-2 : tie.Need-returns-2
 returns-2 c = skipped _ _ (gave (c .before .before)) (c .enum-told .given .1)
 
@@ -65,9 +45,6 @@ mul-more c = omega (arith, inside c)
 
 element-copy-out-more : tie.Need-element-copy-out-more
 element-copy-out-more c = omega (arith, inside c)
-
-more-requires : tie.Need-more-requires
-more-requires c κs = search needs
 
 mul-t10 : tie.Need-mul-t10
 mul-t10 c = omega (arith, inside (c .before .before))
@@ -80,20 +57,4 @@ returns-3 c = added _ _ _ _ (gave (c .before .before .before .before .before)) (
 
 pub register-one-spec : {M : Type 1} → statement M
 register-one-spec =
-    tie.close
-    (tie.spec
-    returns
-    index-requires
-    cast-i
-    mul-ep
-    element-copy-out-ep
-    open-requires
-    enum-known-k
-    enum-told
-    returns-2
-    mul-more
-    element-copy-out-more
-    more-requires
-    mul-t10
-    element-set-from-t
-    returns-3)
+    tie.close (tie.spec returns ·⁷ (search needs) · returns-2 · mul-more · element-copy-out-more · (search needs) · mul-t10 · element-set-from-t · returns-3)

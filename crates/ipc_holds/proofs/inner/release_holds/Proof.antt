@@ -12,7 +12,7 @@ use lib.ListN.{length, getD, set, drop, drop-of-length-le, length-append}
 use lib.Seq.{drop-cons}
 use Rattle.laws.proofs.Cases.{yes, no}
 use Rattle.laws.proofs.Lists.{unmapped}
-use Rattle.cap.specs.Slot.{vacant}
+use Rattle.cap.specs.Slot.{vacantSlot}
 use Rattle.cap.specs.declared.slot.Slot.{Slot}
 use Rattle.ipc_rules.specs.State.{nobody, mailboxAt, withMailbox, withWaiter}
 use Rattle.ipc_rules.specs.Sound.{Sound}
@@ -43,11 +43,11 @@ start : (t : Table) (xs : List Slot) → Sound t → Releases t xs 0 t (fourOf [
 start t xs s = record { sound = s; so-far = []; table = refl; all = refl; places = refl; many = refl; few = omega arith }
 
 -- a turn: the next slot is released, and what that wakes stands after the waiters so far
-module _ {t₀ : Table} {xs : List Slot} {n : ℕ} {t : Table} {waiters : List Waiter} {woken : ℕ} (r : Releases t₀ xs n t waiters woken) (x : Slot) (l : n < length xs) (e : x ≡ getD xs n vacant) where
+module _ {t₀ : Table} {xs : List Slot} {n : ℕ} {t : Table} {waiters : List Waiter} {woken : ℕ} (r : Releases t₀ xs n t waiters woken) (x : Slot) (l : n < length xs) (e : x ≡ getD xs n vacantSlot) where
   turn : (f : Freed) {waiters′ : List Waiter} {woken′ : ℕ} → f ≡ released t x → length (f .woken) ≤ 1 → waiters′ ≡ fourOf (r .so-far ++ f .woken) → woken′ ≡ length (r .so-far ++ f .woken) → Releases t₀ xs (n + 1) (f .table) waiters′ woken′
   unfolding releasedAll
   turn f h small p m =
-      let c : drop n xs ≡ x ∷ drop (suc n) xs = drop-cons xs n vacant l ∙ ap (λ (y : Slot). y ∷ drop (suc n) xs) (sym e) in
+      let c : drop n xs ≡ x ∷ drop (suc n) xs = drop-cons xs n vacantSlot l ∙ ap (λ (y : Slot). y ∷ drop (suc n) xs) (sym e) in
       record {
         sound = rw h (released-kept t x (r .sound));
         so-far = r .so-far ++ f .woken;
@@ -102,7 +102,7 @@ four c = search (needs, unmapped)
 
 -- the slot of this turn, and one that is not vacant: what `open` gave is what the rule asks
 abbrev slot-of : tie.In-loop Inv-loop μ-loop → Slot
-slot-of c = getD (c .before .before .args .t2) (c .before .loop .n) vacant
+slot-of c = getD (c .before .before .args .t2) (c .before .loop .n) vacantSlot
 
 gave : (c : tie.After-open Inv-loop μ-loop) → c .open .result ≡ holdOf (c .before .before .before .before .before .before .before .before .loop .t) (slot-of (c .before .before .before .before .before .before .before))
 gave c = hold-gave _ _ _ (c .before .before .before .before .before .before .before .before .loop .inv .2 .sound) _ (not-false _ (c .before .before .before .before .if1 .left)) (c .before .before .index .ensures) (c .open .ensures)

@@ -1,12 +1,10 @@
 -- `ipc::inner::counts::raised` meets its contract. Assumes nothing.
+use Rattle.laws.proofs.Together.{_·_}
 use Rattle.laws.proofs.Cases.{cases}
 use Rattle.ipc_rules.specs.Counts.{raised}
 use borrow.Author.Needs.{needs}
 use Rattle.ipc_parts.proofs.counts.raised.Statement.{statement}
 use Rattle.ipc_parts.proofs.counts.raised.Tie as tie
-
-add-result : tie.Need-add-result
-add-result c = search needs
 
 returns : tie.Need-returns
 unfolding raised
@@ -17,4 +15,4 @@ unfolding raised
 returns-2 c = search cases
 
 pub raised-spec : {M : Type 1} → statement M
-raised-spec = tie.close (tie.spec add-result returns returns-2)
+raised-spec = tie.close (tie.spec · (search needs) · returns · returns-2)

@@ -1,22 +1,11 @@
 -- `ipc::opening::open_either` meets its contract. Assumes nothing.
+use Rattle.laws.proofs.Together.{_·_, _·⁴_}
 use Rattle.laws.proofs.Cases.{cases}
 use Rattle.ipc_rules.specs.Opening.{openEither}
 use Rattle.ipc_rules.proofs.Openings.{openings}
 use borrow.Author.Needs.{needs}
 use Rattle.ipc_parts.proofs.opening.open_either.Statement.{statement}
 use Rattle.ipc_parts.proofs.opening.open_either.Tie as tie
-
-open-requires : tie.Need-open-requires
-open-requires c κs = search needs
-
-enum-known-k : tie.Need-enum-known-k
-enum-known-k c = search needs
-
-enum-told : tie.Need-enum-told
-enum-told c = search needs
-
-open-requires-2 : tie.Need-open-requires-2
-open-requires-2 c κs = search needs
 
 returns : tie.Need-returns
 unfolding openEither
@@ -28,4 +17,4 @@ returns-2 c = search (openings, cases)
 
 pub open-either-spec : {M : Type 1} → statement M
 open-either-spec =
-    tie.close (tie.spec open-requires enum-known-k enum-told open-requires-2 returns returns-2)
+    tie.close (tie.spec ·⁴ (search needs) · returns · returns-2)

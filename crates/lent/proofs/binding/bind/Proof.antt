@@ -6,7 +6,7 @@ use denote.Triple.Spec.{tripleOf}
 use denote.Triple.Table.{entered, cited}
 use Rattle.walks.proofs.Records.{Kind, nothing-asked}
 use Rattle.walks.proofs.Each as walk
-use Rattle.cap.specs.Slot.{vacant}
+use Rattle.cap.specs.Slot.{vacantSlot}
 use Rattle.manifest.specs.Bind.{bindSlots}
 use Rattle.lent.specs.Binding.{begun, gathered, finished}
 use Rattle.lent.proofs.Gathering.{bind-same}
@@ -49,7 +49,7 @@ unfolding code.routine tablesOf
 bind-spec 𝓤 H 𝓜 𝓖 𝓡 =
     entered 𝓤 H (tripleOf 𝓤 H (𝓖 .A) f.signature (f.spec 𝓤 H (𝓖 .A) (𝓜 .mem) (𝓡 .run)))
     (tables 𝓤 H 𝓜 𝓡 code.env .C) (tables 𝓤 H 𝓜 𝓡 code.env .Λ) #f code.function (code.unfolded 𝓤 H 𝓜 𝓡)
-    (walk.meets entry gathering binding slot E′.the-copy vacant begun gathered finished bindSlots begin-def.name gather-def.name finish-def.name
+    (walk.meets entry gathering binding slot E′.the-copy vacantSlot begun gathered finished bindSlots begin-def.name gather-def.name finish-def.name
     nothing-asked nothing-asked nothing-asked nothing-asked (λ _. Unit {0}) (λ _ _. tt) (λ _ _. tt) (λ _ _ _. tt) (λ _ _ _. tt) (λ _ _. tt) (λ _. tt) (λ _ _. refl) tt (λ e xs room. bind-same e xs (room .0))
     𝓤 H (𝓖 .A) (givenOf 𝓤 H 𝓜 𝓖) (tablesOf 𝓤 H 𝓜 (tables 𝓤 H 𝓜 𝓡 code.env))
     (cited 𝓤 H (tripleOf 𝓤 H (𝓖 .A) begin.signature (begin.spec 𝓤 H (𝓖 .A) (𝓜 .mem) (𝓡 .run))) 𝓜 𝓡 code.env begin-def.name begin-def.routine code.calls-lent·binding·begin (begin-thm.met 𝓤 H 𝓜 𝓖 𝓡))

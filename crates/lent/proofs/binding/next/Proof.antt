@@ -1,12 +1,10 @@
 -- `lent::binding::next` meets its contract. Assumes nothing.
 use borrow.Author.Needs.{needs}
+use Rattle.laws.proofs.Together.{_·_}
 use Rattle.laws.proofs.Cases.{cases}
 use Rattle.lent.specs.Binding.{next}
 use Rattle.lent.proofs.binding.next.Statement.{statement}
 use Rattle.lent.proofs.binding.next.Tie as tie
-
-add-result : tie.Need-add-result
-add-result c = search needs
 
 returns : tie.Need-returns
 unfolding next
@@ -17,4 +15,4 @@ unfolding next
 returns-2 c = search cases
 
 pub next-spec : {M : Type 1} → statement M
-next-spec = tie.close (tie.spec add-result returns returns-2)
+next-spec = tie.close (tie.spec · (search needs) · returns · returns-2)

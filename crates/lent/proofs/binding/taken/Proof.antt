@@ -1,12 +1,10 @@
 -- `lent::binding::taken` meets its contract. Assumes nothing.
 use borrow.Author.Needs.{needs}
+use Rattle.laws.proofs.Together.{_·_}
 use Rattle.laws.proofs.Cases.{cases}
 use Rattle.lent.specs.Binding.{taken}
 use Rattle.lent.proofs.binding.taken.Statement.{statement}
 use Rattle.lent.proofs.binding.taken.Tie as tie
-
-cast-if1 : tie.Need-cast-if1
-cast-if1 c = search needs
 
 returns : tie.Need-returns
 unfolding taken
@@ -17,4 +15,4 @@ unfolding taken
 returns-2 c = search cases
 
 pub taken-spec : {M : Type 1} → statement M
-taken-spec = tie.close (tie.spec cast-if1 returns returns-2)
+taken-spec = tie.close (tie.spec · (search needs) · returns · returns-2)

@@ -6,7 +6,7 @@ use denote.Triple.Spec.{tripleOf}
 use denote.Triple.Table.{entered, cited}
 use Rattle.walks.proofs.Records.{Kind, asked, nothing-asked}
 use Rattle.walks.proofs.Each as walk
-use Rattle.cap.specs.Slot.{vacant}
+use Rattle.cap.specs.Slot.{vacantSlot}
 use Rattle.lent.specs.Holds.{Tested, begun, held, finished, registerSlots}
 use Rattle.lent.proofs.Registering.{register-same, begun-tested, held-tested}
 use Rattle.ipc_rules.proofs.state.Table as B
@@ -48,7 +48,7 @@ unfolding code.routine tablesOf
 register-holds-spec 𝓤 H 𝓜 𝓖 𝓡 =
     entered 𝓤 H (tripleOf 𝓤 H (𝓖 .A) f.signature (f.spec 𝓤 H (𝓖 .A) (𝓜 .mem) (𝓡 .run)))
     (tables 𝓤 H 𝓜 𝓡 code.env .C) (tables 𝓤 H 𝓜 𝓡 code.env .Λ) #f code.function (code.unfolded 𝓤 H 𝓜 𝓡)
-    (walk.meets table holding registering slot E′.the-copy vacant begun held finished registerSlots begin-def.name hold-def.name finish-def.name
+    (walk.meets table holding registering slot E′.the-copy vacantSlot begun held finished registerSlots begin-def.name hold-def.name finish-def.name
     nothing-asked nothing-asked (asked (λ p. Tested (p .0))) nothing-asked Tested (λ _ _. tt) (λ t _. begun-tested t) (λ _ _ h. h) held-tested (λ _ _. tt) (λ _. tt) (λ _ _. refl) tt (λ t xs _. register-same t xs)
     𝓤 H (𝓖 .A) (givenOf 𝓤 H 𝓜 𝓖) (tablesOf 𝓤 H 𝓜 (tables 𝓤 H 𝓜 𝓡 code.env))
     (cited 𝓤 H (tripleOf 𝓤 H (𝓖 .A) begin.signature (begin.spec 𝓤 H (𝓖 .A) (𝓜 .mem) (𝓡 .run))) 𝓜 𝓡 code.env begin-def.name begin-def.routine code.calls-lent·holds·begin (begin-thm.met 𝓤 H 𝓜 𝓖 𝓡))

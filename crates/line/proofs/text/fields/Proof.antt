@@ -6,6 +6,7 @@ use Prim.Native.Nat.{_+_, _*_, _-_, _≤_}
 use native.Mathlib.Omega.{arith}
 use lib.ListN.{length, take}
 use borrow.Author.Needs.{needs}
+use Rattle.laws.proofs.Together.{_·_, _·⁵_}
 use Rattle.line.specs.Line.{spacedOf}
 use Rattle.line.proofs.Pieces.{field, no-fields}
 use Rattle.line.proofs.text.fields.Statement.{statement}
@@ -21,21 +22,6 @@ abbrev μ-loop : tie.MeasureT-loop
 loop-holds : tie.Need-loop-holds Inv-loop μ-loop
 loop-holds c = (omega arith, omega arith, refl, no-fields (c .before .args .out .now) (c .before .args .t3) (c .before .args .at))
 
-mul-spaced : tie.Need-mul-spaced Inv-loop μ-loop
-mul-spaced c = search needs
-
-array-read-spaced : tie.Need-array-read-spaced Inv-loop μ-loop
-array-read-spaced c = search needs
-
-spaced-requires : tie.Need-spaced-requires Inv-loop μ-loop
-spaced-requires c κs = search needs
-
-add-i : tie.Need-add-i Inv-loop μ-loop
-add-i c = search needs
-
-loop-less : tie.Need-loop-less Inv-loop μ-loop
-loop-less c = search needs
-
 loop-again : tie.Need-loop-again Inv-loop μ-loop
 loop-again c =
     let h = c .before .before .before .before .before in
@@ -47,9 +33,6 @@ loop-again c =
       field (h .loop .out) (g .last .0) (a .out .now) (a .t3) (a .at) (h .loop .end) (g .result) (h .loop .i) (search needs) (h .loop .inv .3) (g .ensures .1),
     )
 
-same-length : tie.Need-same-length Inv-loop μ-loop
-same-length c = search needs
-
 returns : tie.Need-returns Inv-loop μ-loop
 returns c =
     let h = c .before in
@@ -58,16 +41,4 @@ returns c =
 
 pub fields-spec : {M : Type 1} → statement M
 fields-spec =
-    tie.close
-    (tie.spec
-    Inv-loop
-    μ-loop
-    loop-holds
-    mul-spaced
-    array-read-spaced
-    spaced-requires
-    add-i
-    loop-less
-    loop-again
-    same-length
-    returns)
+    tie.close (tie.spec Inv-loop μ-loop loop-holds ·⁵ (search needs) · loop-again · (search needs) · returns)

@@ -1,23 +1,9 @@
 -- `line::text::line` meets its contract: its pieces stand one after the other. Assumes nothing.
+use Rattle.laws.proofs.Together.{_·_, _·⁵_}
 use Rattle.line.proofs.Pieces.{pieces}
 use borrow.Author.Needs.{needs}
 use Rattle.line.proofs.text.line.Statement.{statement}
 use Rattle.line.proofs.text.line.Tie as tie
-
-digits-requires : tie.Need-digits-requires
-digits-requires c κs = search needs
-
-spaced-requires : tie.Need-spaced-requires
-spaced-requires c κs = search needs
-
-spaced-requires-2 : tie.Need-spaced-requires-2
-spaced-requires-2 c κs = search needs
-
-closed-requires : tie.Need-closed-requires
-closed-requires c κs = search needs
-
-same-length : tie.Need-same-length
-same-length c = search needs
 
 returns : tie.Need-returns
 returns c =
@@ -33,11 +19,4 @@ returns c =
 
 pub line-spec : {M : Type 1} → statement M
 line-spec =
-    tie.close
-    (tie.spec
-    digits-requires
-    spaced-requires
-    spaced-requires-2
-    closed-requires
-    same-length
-    returns)
+    tie.close (tie.spec ·⁵ (search needs) · returns)

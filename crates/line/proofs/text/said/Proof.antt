@@ -1,20 +1,9 @@
 -- `line::text::said` meets its contract: the word is copied to the front, and the rest of the line follows it. Assumes nothing.
+use Rattle.laws.proofs.Together.{_·_, _·⁴_}
 use Rattle.line.proofs.Pieces.{worded}
 use borrow.Author.Needs.{needs}
 use Rattle.line.proofs.text.said.Statement.{statement}
 use Rattle.line.proofs.text.said.Tie as tie
-
-slice-aggregate-copy : tie.Need-slice-aggregate-copy
-slice-aggregate-copy c = search needs
-
-copy-requires : tie.Need-copy-requires
-copy-requires c κs = search needs
-
-closed-requires : tie.Need-closed-requires
-closed-requires c κs = search needs
-
-same-length : tie.Need-same-length
-same-length c = search needs
 
 returns : tie.Need-returns
 returns c =
@@ -25,4 +14,4 @@ returns c =
 
 pub said-spec : {M : Type 1} → statement M
 said-spec =
-    tie.close (tie.spec slice-aggregate-copy copy-requires closed-requires same-length returns)
+    tie.close (tie.spec ·⁴ (search needs) · returns)

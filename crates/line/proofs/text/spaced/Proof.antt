@@ -2,16 +2,11 @@
 use mathlib.Core.Path.{_∙_}
 use native.Mathlib.Omega.{arith}
 use lib.ListN.{length-set}
+use Rattle.laws.proofs.Together.{_·_, _·²_}
 use Rattle.line.proofs.Pieces.{space}
 use borrow.Author.Needs.{needs}
 use Rattle.line.proofs.text.spaced.Statement.{statement}
 use Rattle.line.proofs.text.spaced.Tie as tie
-
-slice-write-out : tie.Need-slice-write-out
-slice-write-out c = search needs
-
-add-digits : tie.Need-add-digits
-add-digits c = search needs
 
 digits-requires : tie.Need-digits-requires
 digits-requires c κs = simp length-set (omega arith)
@@ -26,4 +21,4 @@ returns c =
     (search needs, space (a .out .now) (g .last .0) (a .at) (g .result) (a .n) (search needs) (g .ensures .1))
 
 pub spaced-spec : {M : Type 1} → statement M
-spaced-spec = tie.close (tie.spec slice-write-out add-digits digits-requires same-length returns)
+spaced-spec = tie.close (tie.spec ·² (search needs) · digits-requires · same-length · returns)

@@ -1,13 +1,11 @@
 -- `logread::lengths::operand_length` meets its contract: the constant table is the rule's list, and its entries are short. Assumes nothing.
 use native.Mathlib.Omega.{arith}
+use Rattle.laws.proofs.Together.{_·_}
 use Rattle.logread.specs.Read.{lengthOf, lengths}
 use Rattle.logread.proofs.Few.{operands-few}
 use borrow.Author.Needs.{needs}
 use Rattle.logread.proofs.lengths.operand_length.Statement.{statement}
 use Rattle.logread.proofs.lengths.operand_length.Tie as tie
-
-array-read-result : tie.Need-array-read-result
-array-read-result c = search needs
 
 cast-result : tie.Need-cast-result
 unfolding lengthOf lengths
@@ -18,4 +16,4 @@ unfolding lengthOf lengths
 returns c = search needs
 
 pub operand-length-spec : {M : Type 1} → statement M
-operand-length-spec = tie.close (tie.spec array-read-result cast-result returns)
+operand-length-spec = tie.close (tie.spec · (search needs) · cast-result · returns)

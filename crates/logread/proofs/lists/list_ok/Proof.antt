@@ -1,4 +1,5 @@
 -- `logread::list_ok` meets its contract: the four tests together are `every` of the rule. Assumes nothing.
+use Rattle.laws.proofs.Together.{_·_, _·⁴_}
 use Rattle.laws.specs.Every.{every}
 use Rattle.logread.specs.Lists.{listOk}
 use Rattle.logread.proofs.Past.{list-past}
@@ -9,29 +10,10 @@ use Rattle.logread.proofs.lists.list_ok.Tie as tie
 returns : tie.Need-returns
 returns c = let a = c .before .before .args in list-past (a .log .now) (a .at) (c .if1 .taken)
 
-entry-ok-requires : tie.Need-entry-ok-requires
-entry-ok-requires c κs = search needs
-
-entry-ok-requires-2 : tie.Need-entry-ok-requires-2
-entry-ok-requires-2 c κs = search needs
-
-entry-ok-requires-3 : tie.Need-entry-ok-requires-3
-entry-ok-requires-3 c κs = search needs
-
-entry-ok-requires-4 : tie.Need-entry-ok-requires-4
-entry-ok-requires-4 c κs = search needs
-
 returns-2 : tie.Need-returns-2
 unfolding listOk every
 returns-2 c = rw (c .before .before .before .entry-ok .ensures, c .before .before .entry-ok2 .ensures, c .before .entry-ok3 .ensures, c .entry-ok4 .ensures)
 
 pub list-ok-spec : {M : Type 1} → statement M
 list-ok-spec =
-    tie.close
-    (tie.spec
-    returns
-    entry-ok-requires
-    entry-ok-requires-2
-    entry-ok-requires-3
-    entry-ok-requires-4
-    returns-2)
+    tie.close (tie.spec returns ·⁴ (search needs) · returns-2)

@@ -1,5 +1,6 @@
 -- `logread::u64_at` meets its contract by `split`, four bytes and four. Assumes nothing.
 use native.Mathlib.Omega.{arith}
+use Rattle.laws.proofs.Together.{_·_, _·⁷_}
 use Rattle.logread.proofs.Numbers.{past, split}
 use mathlib.Core.Path.{sym}
 use borrow.Author.Needs.{needs}
@@ -9,40 +10,9 @@ use Rattle.logread.proofs.little.u64_at.Tie as tie
 returns : tie.Need-returns
 returns c = let a = c .before .before .args in sym (past (a .s .now) 8 (a .at) (c .if1 .taken))
 
-u32-at-requires : tie.Need-u32-at-requires
-u32-at-requires c κs = search needs
-
-add-u32-at : tie.Need-add-u32-at
-add-u32-at c = search needs
-
-u32-at-requires-2 : tie.Need-u32-at-requires-2
-u32-at-requires-2 c κs = search needs
-
-cast-result : tie.Need-cast-result
-cast-result c = search needs
-
-cast-result-2 : tie.Need-cast-result-2
-cast-result-2 c = search needs
-
-mul-result : tie.Need-mul-result
-mul-result c = search needs
-
-add-result : tie.Need-add-result
-add-result c = search needs
-
 returns-2 : tie.Need-returns-2
 returns-2 c = let a = c .before .before .before .before .args in omega (arith, split (a .s .now) 4 4 (a .at), c .u32-at2 .ensures, c .before .u32-at .ensures)
 
 pub u64-at-spec : {M : Type 1} → statement M
 u64-at-spec =
-    tie.close
-    (tie.spec
-    returns
-    u32-at-requires
-    add-u32-at
-    u32-at-requires-2
-    cast-result
-    cast-result-2
-    mul-result
-    add-result
-    returns-2)
+    tie.close (tie.spec returns ·⁷ (search needs) · returns-2)

@@ -5,6 +5,7 @@ use mathlib.Core.List.{List}
 use Prim.Native.Nat.{ℕ}
 use lib.Dec.{eqb}
 use borrow.Author.Tests.{ne-eqb}
+use Rattle.laws.proofs.Together.{_·_, _·²_}
 use Rattle.laws.specs.Pick.{pick}
 use Rattle.laws.proofs.Cases.{cases, no, not-both}
 use Rattle.logread.specs.Lists.{listOk}
@@ -35,21 +36,9 @@ others : (op : ℕ) (log : List ℕ) → eqb op create ≡ false → startsWithL
 unfolding operandsOk
 others op log n e = no _ n (no-list _ _ _ _ e)
 
-byte-at-requires : tie.Need-byte-at-requires
-byte-at-requires c κs = search needs
-
-flag-ok-requires : tie.Need-flag-ok-requires
-flag-ok-requires c κs = search needs
-
 returns : tie.Need-returns
 unfolding operandsOk
 returns c = rw (c .flag-ok .ensures, c .before .byte-at .ensures) (search cases)
-
-list-at-requires : tie.Need-list-at-requires
-list-at-requires c κs = search needs
-
-list-ok-requires : tie.Need-list-ok-requires
-list-ok-requires c κs = search needs
 
 returns-2 : tie.Need-returns-2
 returns-2 c = rw (c .list-ok .ensures, c .before .list-at .ensures) (listed _ _ (ne-eqb _ _ (c .before .before .before .if1 .left)) (c .before .before .if2 .taken))
@@ -59,12 +48,4 @@ returns-3 c = others _ _ (ne-eqb _ _ (c .before .if1 .left)) (c .if2 .left)
 
 pub operands-ok-spec : {M : Type 1} → statement M
 operands-ok-spec =
-    tie.close
-    (tie.spec
-    byte-at-requires
-    flag-ok-requires
-    returns
-    list-at-requires
-    list-ok-requires
-    returns-2
-    returns-3)
+    tie.close (tie.spec ·² (search needs) · returns ·² (search needs) · returns-2 · returns-3)

@@ -5,34 +5,25 @@ use borrow.Author.Needs.{needs}
 use Rattle.operations.proofs.channels.op_clear_waiter.Statement.{statement}
 use Rattle.operations.proofs.channels.op_clear_waiter.Tie as tie
 
-u16-at-requires : tie.Need-u16-at-requires
-u16-at-requires c κs = search needs
-
-u16-at-requires-2 : tie.Need-u16-at-requires-2
-u16-at-requires-2 c κs = search needs
+task-at-requires : tie.Need-task-at-requires
+task-at-requires c κs = search needs
 
 clear-waiter-requires : tie.Need-clear-waiter-requires
 clear-waiter-requires c κs = search needs
 
-clear-values-requires : tie.Need-clear-values-requires
-clear-values-requires c κs = search needs
+shown-requires : tie.Need-shown-requires
+shown-requires c κs = search needs
 
-number-requires : tie.Need-number-requires
-number-requires c κs = search needs
+with-channels-requires : tie.Need-with-channels-requires
+with-channels-requires c κs = search needs
 
 returns : tie.Need-returns
 unfolding clearDone
 returns c =
-    rw (← c .before .before .before .before .before .u16-at2 .ensures, ← c .before .before .before .before .before .before .u16-at .ensures)
-    (packs (cleared (c .before .before .before .before .before .before .before .before .args .t)) (c .before .before .before .before .clear-waiter .ensures) (c .number .ensures) (c .before .before .before .clear-values .ensures))
+    rw (← c .before .before .before .task-at .ensures)
+    (packs (cleared (c .before .before .before .before .before .args .t)) (c .before .before .clear-waiter .ensures) (c .before .shown .ensures) (c .with-channels .ensures))
 
 pub op-clear-waiter-spec : {M : Type 1} → statement M
 op-clear-waiter-spec =
     tie.close
-    (tie.spec
-    u16-at-requires
-    u16-at-requires-2
-    clear-waiter-requires
-    clear-values-requires
-    number-requires
-    returns)
+    (tie.spec task-at-requires clear-waiter-requires shown-requires with-channels-requires returns)

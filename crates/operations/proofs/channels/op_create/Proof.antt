@@ -11,19 +11,19 @@ byte-at-requires c κs = search needs
 create-requires : tie.Need-create-requires
 create-requires c κs = search needs
 
-create-values-requires : tie.Need-create-values-requires
-create-values-requires c κs = search needs
+shown-requires : tie.Need-shown-requires
+shown-requires c κs = search needs
 
-number-requires : tie.Need-number-requires
-number-requires c κs = search needs
+with-channels-requires : tie.Need-with-channels-requires
+with-channels-requires c κs = search needs
 
 returns : tie.Need-returns
 unfolding createDone
 returns c =
-    rw (← c .before .before .before .before .before .byte-at .ensures)
-    (packs (created (c .before .before .before .before .before .before .before .args .t)) (c .before .before .before .before .create .ensures) (c .number .ensures) (c .before .before .before .create-values .ensures))
+    rw (← c .before .before .before .byte-at .ensures)
+    (packs (created (c .before .before .before .before .before .args .t)) (c .before .before .create .ensures) (c .before .shown .ensures) (c .with-channels .ensures))
 
 pub op-create-spec : {M : Type 1} → statement M
 op-create-spec =
     tie.close
-    (tie.spec byte-at-requires create-requires create-values-requires number-requires returns)
+    (tie.spec byte-at-requires create-requires shown-requires with-channels-requires returns)

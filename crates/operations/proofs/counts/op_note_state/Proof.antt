@@ -8,17 +8,16 @@ use Rattle.operations.proofs.counts.op_note_state.Tie as tie
 note-state-refusal-requires : tie.Need-note-state-refusal-requires
 note-state-refusal-requires c κs = search needs
 
-none-requires : tie.Need-none-requires
-none-requires c κs = search needs
+shown-requires : tie.Need-shown-requires
+shown-requires c κs = search needs
 
-number-requires : tie.Need-number-requires
-number-requires c κs = search needs
+with-channels-requires : tie.Need-with-channels-requires
+with-channels-requires c κs = search needs
 
 returns : tie.Need-returns
 unfolding noteStateDone
-returns c =
-    packs (noted (c .before .before .before .before .before .args .t)) (c .before .before .before .before .note-state-refusal .ensures) (c .number .ensures) (c .before .before .before .none .ensures)
+returns c = packs (noted (c .before .before .before .args .t)) (c .before .before .note-state-refusal .ensures) (c .before .shown .ensures) (c .with-channels .ensures)
 
 pub op-note-state-spec : {M : Type 1} → statement M
 op-note-state-spec =
-    tie.close (tie.spec note-state-refusal-requires none-requires number-requires returns)
+    tie.close (tie.spec note-state-refusal-requires shown-requires with-channels-requires returns)

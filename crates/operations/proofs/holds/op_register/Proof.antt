@@ -14,17 +14,17 @@ slice-aggregate-register-holds c = search needs
 register-holds-requires : tie.Need-register-holds-requires
 register-holds-requires c κs = search needs
 
-none-requires : tie.Need-none-requires
-none-requires c κs = search needs
+shown-requires : tie.Need-shown-requires
+shown-requires c κs = search needs
 
-number-requires : tie.Need-number-requires
-number-requires c κs = search needs
+with-channels-requires : tie.Need-with-channels-requires
+with-channels-requires c κs = search needs
 
 returns : tie.Need-returns
 unfolding registerDone
 returns c =
-    rw (← c .before .before .before .before .before .before .list-words .ensures)
-    (packs (registered (c .before .before .before .before .before .before .before .before .args .t)) (c .before .before .before .before .register-holds .ensures) (c .number .ensures) (c .before .before .before .none .ensures))
+    rw (← c .before .before .before .before .list-words .ensures)
+    (packs (registered (c .before .before .before .before .before .before .args .t)) (c .before .before .register-holds .ensures) (c .before .shown .ensures) (c .with-channels .ensures))
 
 pub op-register-spec : {M : Type 1} → statement M
 op-register-spec =
@@ -33,6 +33,6 @@ op-register-spec =
     list-words-requires
     slice-aggregate-register-holds
     register-holds-requires
-    none-requires
-    number-requires
+    shown-requires
+    with-channels-requires
     returns)

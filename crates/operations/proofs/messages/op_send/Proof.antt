@@ -5,42 +5,34 @@ use borrow.Author.Needs.{needs}
 use Rattle.operations.proofs.messages.op_send.Statement.{statement}
 use Rattle.operations.proofs.messages.op_send.Tie as tie
 
-u32-at-requires : tie.Need-u32-at-requires
-u32-at-requires c κs = search needs
+id-at-requires : tie.Need-id-at-requires
+id-at-requires c κs = search needs
 
-u32-at-requires-2 : tie.Need-u32-at-requires-2
-u32-at-requires-2 c κs = search needs
-
-u64-at-requires : tie.Need-u64-at-requires
-u64-at-requires c κs = search needs
-
-u64-at-requires-2 : tie.Need-u64-at-requires-2
-u64-at-requires-2 c κs = search needs
+message-at-requires : tie.Need-message-at-requires
+message-at-requires c κs = search needs
 
 send-requires : tie.Need-send-requires
 send-requires c κs = search needs
 
-send-values-requires : tie.Need-send-values-requires
-send-values-requires c κs = search needs
+shown-requires : tie.Need-shown-requires
+shown-requires c κs = search needs
 
-number-requires : tie.Need-number-requires
-number-requires c κs = search needs
+with-channels-requires : tie.Need-with-channels-requires
+with-channels-requires c κs = search needs
 
 returns : tie.Need-returns
 unfolding sendDone
 returns c =
-    rw (← c .before .before .before .before .before .u64-at2 .ensures, ← c .before .before .before .before .before .before .u64-at .ensures, ← c .before .before .before .before .before .before .before .u32-at2 .ensures, ← c .before .before .before .before .before .before .before .before .u32-at .ensures)
-    (packs (sent (c .before .before .before .before .before .before .before .before .before .before .args .t)) (c .before .before .before .before .send .ensures) (c .number .ensures) (c .before .before .before .send-values .ensures))
+    rw (← c .before .before .before .message-at .ensures, ← c .before .before .before .before .id-at .ensures)
+    (packs (sent (c .before .before .before .before .before .before .args .t)) (c .before .before .send .ensures) (c .before .shown .ensures) (c .with-channels .ensures))
 
 pub op-send-spec : {M : Type 1} → statement M
 op-send-spec =
     tie.close
     (tie.spec
-    u32-at-requires
-    u32-at-requires-2
-    u64-at-requires
-    u64-at-requires-2
+    id-at-requires
+    message-at-requires
     send-requires
-    send-values-requires
-    number-requires
+    shown-requires
+    with-channels-requires
     returns)

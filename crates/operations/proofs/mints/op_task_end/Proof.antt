@@ -1,5 +1,4 @@
 -- `operations::mints::op_task_end` meets its contract. Assumes nothing.
-use mathlib.Core.Path.{refl}
 use Rattle.operations.specs.Mints.{taskEndDone, ended}
 use Rattle.operations.proofs.Packs.{packs}
 use borrow.Author.Needs.{needs}
@@ -12,18 +11,24 @@ u32-at-requires c κs = search needs
 revoke-task-requires : tie.Need-revoke-task-requires
 revoke-task-requires c κs = search needs
 
-cast-one : tie.Need-cast-one
-cast-one c = search needs
+revoke-shown-requires : tie.Need-revoke-shown-requires
+revoke-shown-requires c κs = search needs
 
-one-requires : tie.Need-one-requires
-one-requires c κs = search needs
+with-tasks-requires : tie.Need-with-tasks-requires
+with-tasks-requires c κs = search needs
 
 returns : tie.Need-returns
 unfolding taskEndDone
 returns c =
-    rw (← c .before .before .before .before .before .u32-at .ensures)
-    (packs (ended (c .before .before .before .before .before .before .before .args .t)) (c .before .before .before .before .revoke-task .ensures) refl (c .before .before .one .ensures))
+    rw (← c .before .before .before .u32-at .ensures)
+    (packs (ended (c .before .before .before .before .before .args .t)) (c .before .before .revoke-task .ensures) (c .before .revoke-shown .ensures) (c .with-tasks .ensures))
 
 pub op-task-end-spec : {M : Type 1} → statement M
 op-task-end-spec =
-    tie.close (tie.spec u32-at-requires revoke-task-requires cast-one one-requires returns)
+    tie.close
+    (tie.spec
+    u32-at-requires
+    revoke-task-requires
+    revoke-shown-requires
+    with-tasks-requires
+    returns)

@@ -1,29 +1,25 @@
 -- `operations::mints::op_task_lookup` meets its contract. Assumes nothing.
+use mathlib.Core.Path.{refl}
 use Rattle.operations.specs.Mints.{taskLookupDone, named}
 use Rattle.operations.proofs.Packs.{packs}
 use borrow.Author.Needs.{needs}
 use Rattle.operations.proofs.mints.op_task_lookup.Statement.{statement}
 use Rattle.operations.proofs.mints.op_task_lookup.Tie as tie
 
-u32-at-requires : tie.Need-u32-at-requires
-u32-at-requires c κs = search needs
+id-at-requires : tie.Need-id-at-requires
+id-at-requires c κs = search needs
 
 lookup-requires : tie.Need-lookup-requires
 lookup-requires c κs = search needs
 
-lookup-values-requires : tie.Need-lookup-values-requires
-lookup-values-requires c κs = search needs
-
-number-requires : tie.Need-number-requires
-number-requires c κs = search needs
+shown-requires : tie.Need-shown-requires
+shown-requires c κs = search needs
 
 returns : tie.Need-returns
 unfolding taskLookupDone
 returns c =
-    rw (← c .before .before .before .before .u32-at .ensures)
-    (packs (named (c .before .before .before .before .before .before .args .t)) (c .before .before .before .lookup .ensures) (c .number .ensures) (c .before .before .lookup-values .ensures))
+    rw (← c .before .before .id-at .ensures)
+    (packs (named (c .before .before .before .before .args .t)) (c .before .lookup .ensures) (c .shown .ensures) refl)
 
 pub op-task-lookup-spec : {M : Type 1} → statement M
-op-task-lookup-spec =
-    tie.close
-    (tie.spec u32-at-requires lookup-requires lookup-values-requires number-requires returns)
+op-task-lookup-spec = tie.close (tie.spec id-at-requires lookup-requires shown-requires returns)

@@ -11,18 +11,18 @@ u32-at-requires c κs = search needs
 mint-requires : tie.Need-mint-requires
 mint-requires c κs = search needs
 
-mint-values-requires : tie.Need-mint-values-requires
-mint-values-requires c κs = search needs
+shown-requires : tie.Need-shown-requires
+shown-requires c κs = search needs
 
-number-requires : tie.Need-number-requires
-number-requires c κs = search needs
+with-tasks-requires : tie.Need-with-tasks-requires
+with-tasks-requires c κs = search needs
 
 returns : tie.Need-returns
 unfolding taskMintDone
 returns c =
-    rw (← c .before .before .before .before .before .u32-at .ensures)
-    (packs (taskMinted (c .before .before .before .before .before .before .before .args .t)) (c .before .before .before .before .mint .ensures) (c .number .ensures) (c .before .before .before .mint-values .ensures))
+    rw (← c .before .before .before .u32-at .ensures)
+    (packs (taskMinted (c .before .before .before .before .before .args .t)) (c .before .before .mint .ensures) (c .before .shown .ensures) (c .with-tasks .ensures))
 
 pub op-task-mint-spec : {M : Type 1} → statement M
 op-task-mint-spec =
-    tie.close (tie.spec u32-at-requires mint-requires mint-values-requires number-requires returns)
+    tie.close (tie.spec u32-at-requires mint-requires shown-requires with-tasks-requires returns)

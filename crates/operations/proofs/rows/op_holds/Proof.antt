@@ -6,34 +6,25 @@ use borrow.Author.Needs.{needs}
 use Rattle.operations.proofs.rows.op_holds.Statement.{statement}
 use Rattle.operations.proofs.rows.op_holds.Tie as tie
 
-byte-at-requires : tie.Need-byte-at-requires
-byte-at-requires c κs = search needs
+index-at-requires : tie.Need-index-at-requires
+index-at-requires c κs = search needs
 
-cast-row : tie.Need-cast-row
-cast-row c = search needs
-
-u32-at-requires : tie.Need-u32-at-requires
-u32-at-requires c κs = search needs
+id-at-requires : tie.Need-id-at-requires
+id-at-requires c κs = search needs
 
 holds-requires : tie.Need-holds-requires
 holds-requires c κs = search needs
 
-flag-values-requires : tie.Need-flag-values-requires
-flag-values-requires c κs = search needs
+holds-shown-requires : tie.Need-holds-shown-requires
+holds-shown-requires c κs = search needs
 
 returns : tie.Need-returns
 unfolding holdsDone
 returns c =
-    rw (← c .before .before .before .u32-at .ensures, ← c .before .before .before .before .byte-at .ensures)
-    (packs (told (c .before .before .before .before .before .before .args .t)) (c .before .before .holds .ensures) refl (c .before .flag-values .ensures))
+    rw (← c .before .before .id-at .ensures, ← c .before .before .before .index-at .ensures)
+    (packs (told (c .before .before .before .before .before .args .t)) (c .before .holds .ensures) (c .holds-shown .ensures) refl)
 
 pub op-holds-spec : {M : Type 1} → statement M
 op-holds-spec =
     tie.close
-    (tie.spec
-    byte-at-requires
-    cast-row
-    u32-at-requires
-    holds-requires
-    flag-values-requires
-    returns)
+    (tie.spec index-at-requires id-at-requires holds-requires holds-shown-requires returns)

@@ -52,20 +52,17 @@ part-write-line-end c = search needs
 cast-write-line : tie.Need-cast-write-line
 cast-write-line c = search needs
 
-cast-write-line-2 : tie.Need-cast-write-line-2
-cast-write-line-2 c = search needs
-
 write-line-requires : tie.Need-write-line-requires
 write-line-requires c κs = search needs
 
 enum-known-n : tie.Need-enum-known-n
 enum-known-n c = search needs
 
-add-t29 : tie.Need-add-t29
-add-t29 c =
+add-t28 : tie.Need-add-t28
+add-t28 c =
     let l = c .before .before .before .before .before in
-    let s = l .before .before .before .before .before .before .before .before .before .before .before .before .before in
-    omega (arith, buffer-bounded s, lent-within (s .args .out .now) (s .args .at) _ (l .before .before .before .if1 .left) (l .write-line .ensures .0) _ (c .before .n .given .1))
+    let s = l .before .before .before .before .before .before .before .before .before .before .before .before in
+    omega (arith, buffer-bounded s, lent-within (s .args .out .now) (s .args .at) _ (l .before .before .if1 .left) (l .write-line .ensures .0) _ (c .before .n .given .1))
 
 enum-told-5 : tie.Need-enum-told-5
 enum-told-5 c = search needs
@@ -100,10 +97,10 @@ same-length c = search needs
 returns-6 : tie.Need-returns-6
 returns-6 c =
     let l = c .before .before .before .before .before in
-    let p = l .before .before .before .before .before .before in
+    let p = l .before .before .before .before .before in
     let a = p .before .before .before .before .before .before .before .args in
     let r = sym (p .before .before .before .before .read-record .ensures) ∙ p .before .before .op .given .1 in
-    took (a .log .now) (a .out .now) (a .number) (a .at) (a .t) _ _ r (p .apply .result) (p .apply .ensures) (l .before .before .before .if1 .left) (l .write-line .last .0) (l .write-line .result) (l .write-line .ensures .0) (l .write-line .ensures .1) _ (c .before .n .given .1)
+    took (a .log .now) (a .out .now) (a .number) (a .at) (a .t) _ _ r (p .apply .result) (p .apply .ensures) (l .before .before .if1 .left) (l .write-line .last .0) (l .write-line .result) (l .write-line .ensures .0) (l .write-line .ensures .1) _ (c .before .n .given .1)
 
 same-length-2 : tie.Need-same-length-2
 same-length-2 c = search needs
@@ -111,10 +108,10 @@ same-length-2 c = search needs
 returns-7 : tie.Need-returns-7
 returns-7 c =
     let l = c .before .before .before .before in
-    let p = l .before .before .before .before .before .before in
+    let p = l .before .before .before .before .before in
     let a = p .before .before .before .before .before .before .before .args in
     let r = sym (p .before .before .before .before .read-record .ensures) ∙ p .before .before .op .given .1 in
-    no-room (a .log .now) (a .out .now) (a .number) (a .at) (a .t) _ _ r (p .apply .result) (p .apply .ensures) (l .before .before .before .if1 .left) (l .write-line .last .0) (l .write-line .result) (l .write-line .ensures .0) (l .write-line .ensures .1) (c .enum-told5 .given .1)
+    no-room (a .log .now) (a .out .now) (a .number) (a .at) (a .t) _ _ r (p .apply .result) (p .apply .ensures) (l .before .before .if1 .left) (l .write-line .last .0) (l .write-line .result) (l .write-line .ensures .0) (l .write-line .ensures .1) (c .enum-told5 .given .1)
 
 pub step-spec : {M : Type 1} → statement M
 step-spec =
@@ -132,10 +129,9 @@ step-spec =
     part-write-line-start
     part-write-line-end
     cast-write-line
-    cast-write-line-2
     write-line-requires
     enum-known-n
-    add-t29
+    add-t28
     enum-told-5
     returns-2
     returns-3

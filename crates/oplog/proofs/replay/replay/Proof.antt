@@ -20,7 +20,7 @@ sound-requires : tie.Need-sound-requires
 sound-requires c κs = search needs
 
 returns : tie.Need-returns
-returns c = refuses _ _ _ _ (c .before .sound .ensures) (c .if1 .taken)
+returns c = refuses _ _ _ _ (c .before .sound .ensures .0) (c .if1 .taken)
 
 last-requires : tie.Need-last-requires
 last-requires c κs = search needs
@@ -29,13 +29,13 @@ same-length : tie.Need-same-length
 same-length c = search needs
 
 returns-2 : tie.Need-returns-2
-returns-2 c = too-long _ _ _ _ (c .before .before .before .before .before .before .sound .ensures) (c .before .before .before .before .before .if1 .left) (c .before .before .before .before .if2 .taken) (c .before .before .last .ensures .0) (c .before .before .last .ensures .1)
+returns-2 c = too-long _ _ _ _ (c .before .before .before .before .before .before .sound .ensures .0) (c .before .before .before .before .before .if1 .left) (c .before .before .before .before .if2 .taken) (c .before .before .last .ensures .0) (c .before .before .last .ensures .1)
 
 sub-run : tie.Need-sub-run
-sub-run c = inside (c .before .before .before .before .before .before .before .args .log .now) (c .before .before .before .before .before .before .before .args .out .now) (c .before .before .before .before .before .before .before .args .from) _ (c .before .before .sound .ensures) (c .before .if1 .left)
+sub-run c = inside (c .before .before .before .before .before .before .before .args .log .now) (c .before .before .before .before .before .before .before .args .out .now) (c .before .before .before .before .before .before .before .args .from) _ (c .before .before .sound .ensures .0) (c .before .if1 .left)
 
 part-run-start : tie.Need-part-run-start
-part-run-start c = omega (arith, inside (c .before .before .before .before .before .before .before .args .log .now) (c .before .before .before .before .before .before .before .args .out .now) (c .before .before .before .before .before .before .before .args .from) _ (c .before .before .sound .ensures) (c .before .if1 .left))
+part-run-start c = omega (arith, inside (c .before .before .before .before .before .before .before .args .log .now) (c .before .before .before .before .before .before .before .args .out .now) (c .before .before .before .before .before .before .before .args .from) _ (c .before .before .sound .ensures .0) (c .before .if1 .left))
 
 part-run-end : tie.Need-part-run-end
 part-run-end c = search needs
@@ -43,10 +43,10 @@ part-run-end c = search needs
 run-requires : tie.Need-run-requires
 run-requires c κs =
     let l = c .before .before .if2 .left in
-    let i = inside (c .before .before .before .before .before .before .before .before .before .args .log .now) (c .before .before .before .before .before .before .before .before .before .args .out .now) (c .before .before .before .before .before .before .before .before .before .args .from) _ (c .before .before .before .before .sound .ensures) (c .before .before .before .if1 .left) in
-    let d = counted (c .before .before .before .before .before .before .before .before .before .args .log .now) (c .before .before .before .before .before .before .before .before .before .args .out .now) (c .before .before .before .before .before .before .before .before .before .args .from) _ (c .before .before .before .before .sound .ensures) (c .before .before .before .if1 .left) in
+    let i = inside (c .before .before .before .before .before .before .before .before .before .args .log .now) (c .before .before .before .before .before .before .before .before .before .args .out .now) (c .before .before .before .before .before .before .before .before .before .args .from) _ (c .before .before .before .before .sound .ensures .0) (c .before .before .before .if1 .left) in
+    let d = counted (c .before .before .before .before .before .before .before .before .before .args .log .now) (c .before .before .before .before .before .before .before .before .before .args .out .now) (c .before .before .before .before .before .before .before .before .before .args .from) _ (c .before .before .before .before .sound .ensures .0) (c .before .before .before .if1 .left) in
     let e = tail-long (c .before .before .before .before .before .before .before .before .before .args .log .now) (c .before .before .before .before .before .before .before .before .before .args .from .offset) in
-    (sound-of _ (shape (c .before .before .before .before .before .before .before .before .before)) (sound-test (c .before .before .before .before .before .before .before .before .before .args .log .now) (c .before .before .before .before .before .before .before .before .before .args .out .now) (c .before .before .before .before .before .before .before .before .before .args .from) _ (c .before .before .before .before .sound .ensures) (c .before .before .before .if1 .left)), omega arith)
+    (sound-of _ (shape (c .before .before .before .before .before .before .before .before .before)) (sound-test (c .before .before .before .before .before .before .before .before .before .args .log .now) (c .before .before .before .before .before .before .before .before .before .args .out .now) (c .before .before .before .before .before .before .before .before .before .args .from) _ (c .before .before .before .before .sound .ensures .0) (c .before .before .before .if1 .left)), omega arith)
 
 number-requires : tie.Need-number-requires
 number-requires c κs = search needs
@@ -55,7 +55,7 @@ add-reached : tie.Need-add-reached
 add-reached c =
     let a = c .before .before .before .before .before .before .before .before .before .before .before .before .before .before .before .args in
     let l = c .before .before .before .before .before .before .before .before .if2 .left in
-    let i = inside (c .before .before .before .before .before .before .before .before .before .before .before .before .before .before .before .args .log .now) (c .before .before .before .before .before .before .before .before .before .before .before .before .before .before .before .args .out .now) (c .before .before .before .before .before .before .before .before .before .before .before .before .before .before .before .args .from) _ (c .before .before .before .before .before .before .before .before .before .before .sound .ensures) (c .before .before .before .before .before .before .before .before .before .if1 .left) in
+    let i = inside (c .before .before .before .before .before .before .before .before .before .before .before .before .before .before .before .args .log .now) (c .before .before .before .before .before .before .before .before .before .before .before .before .before .before .before .args .out .now) (c .before .before .before .before .before .before .before .before .before .before .before .before .before .before .before .args .from) _ (c .before .before .before .before .before .before .before .before .before .before .sound .ensures .0) (c .before .before .before .before .before .before .before .before .before .if1 .left) in
     let e = tail-long (a .log .now) (a .from .offset) in
     let w : c .before .before .before .before .before .run .result .offset ≤ length (take (length (a .log .now) - a .from .offset) (drop (a .from .offset) (a .log .now))) = ran-within (take (length (a .log .now) - a .from .offset) (drop (a .from .offset) (a .log .now))) (a .from .done) (a .out .now) (a .from .tables) (c .before .before .before .before .before .run .ensures .0) in
     let g : a .from .offset + c .before .before .before .before .before .run .result .offset < 18446744073709551616 = omega arith in
@@ -65,7 +65,7 @@ same-length-2 : tie.Need-same-length-2
 same-length-2 c = search needs
 
 returns-3 : tie.Need-returns-3
-returns-3 c = no-room (c .before .before .before .before .before .before .before .before .before .before .before .before .before .before .before .before .args .log .now) (c .before .before .before .before .before .before .before .before .before .before .before .before .before .before .before .before .args .out .now) (c .before .before .before .before .before .before .before .before .before .before .before .before .before .before .before .before .args .from) _ (c .before .before .before .before .before .before .before .before .before .before .before .sound .ensures) (c .before .before .before .before .before .before .before .before .before .before .if1 .left) (c .before .before .before .before .before .before .before .before .before .if2 .left) (c .before .before .before .before .before .before .run .result) _ (c .before .before .before .before .before .before .run .ensures .0) (c .before .before .before .before .before .before .run .ensures .1) (sym (c .before .before .before .number .ensures) ∙ c .if3 .taken)
+returns-3 c = no-room (c .before .before .before .before .before .before .before .before .before .before .before .before .before .before .before .before .args .log .now) (c .before .before .before .before .before .before .before .before .before .before .before .before .before .before .before .before .args .out .now) (c .before .before .before .before .before .before .before .before .before .before .before .before .before .before .before .before .args .from) _ (c .before .before .before .before .before .before .before .before .before .before .before .sound .ensures .0) (c .before .before .before .before .before .before .before .before .before .before .if1 .left) (c .before .before .before .before .before .before .before .before .before .if2 .left) (c .before .before .before .before .before .before .run .result) _ (c .before .before .before .before .before .before .run .ensures .0) (c .before .before .before .before .before .before .run .ensures .1) (sym (c .before .before .before .number .ensures) ∙ c .if3 .taken)
 
 last-requires-2 : tie.Need-last-requires-2
 last-requires-2 c κs =
@@ -79,7 +79,7 @@ same-length-3 c = search needs
 returns-4 : tie.Need-returns-4
 returns-4 c =
     let n = c .before .before .before .before .before .before .before .number .ensures in
-    ends (c .before .before .before .before .before .before .before .before .before .before .before .before .before .before .before .before .before .before .before .before .args .log .now) (c .before .before .before .before .before .before .before .before .before .before .before .before .before .before .before .before .before .before .before .before .args .out .now) (c .before .before .before .before .before .before .before .before .before .before .before .before .before .before .before .before .before .before .before .before .args .from) _ (c .before .before .before .before .before .before .before .before .before .before .before .before .before .before .before .sound .ensures) (c .before .before .before .before .before .before .before .before .before .before .before .before .before .before .if1 .left) (c .before .before .before .before .before .before .before .before .before .before .before .before .before .if2 .left) (c .before .before .before .before .before .before .before .before .before .before .run .result) _ (c .before .before .before .before .before .before .before .before .before .before .run .ensures .0) (c .before .before .before .before .before .before .before .before .before .before .run .ensures .1) (λ z. c .before .before .before .before .if3 .left (n ∙ z))
+    ends (c .before .before .before .before .before .before .before .before .before .before .before .before .before .before .before .before .before .before .before .before .args .log .now) (c .before .before .before .before .before .before .before .before .before .before .before .before .before .before .before .before .before .before .before .before .args .out .now) (c .before .before .before .before .before .before .before .before .before .before .before .before .before .before .before .before .before .before .before .before .args .from) _ (c .before .before .before .before .before .before .before .before .before .before .before .before .before .before .before .sound .ensures .0) (c .before .before .before .before .before .before .before .before .before .before .before .before .before .before .if1 .left) (c .before .before .before .before .before .before .before .before .before .before .before .before .before .if2 .left) (c .before .before .before .before .before .before .before .before .before .before .run .result) _ (c .before .before .before .before .before .before .before .before .before .before .run .ensures .0) (c .before .before .before .before .before .before .before .before .before .before .run .ensures .1) (λ z. c .before .before .before .before .if3 .left (n ∙ z))
     (rw (← n) (c .before .before .last2 .ensures .0)) (rw (← n) (c .before .before .last2 .ensures .1))
 
 pub replay-spec : {M : Type 1} → statement M

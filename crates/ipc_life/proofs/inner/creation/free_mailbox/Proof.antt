@@ -1,10 +1,11 @@
 -- `ipc::inner::free_mailbox` meets its contract. The loop's invariant: from `i` up the search finds what it finds from the start. Assumes nothing.
-use mathlib.Core.Path.{_≡_, refl, _∙_}
+use mathlib.Core.Path.{_≡_, refl, sym, _∙_}
 use Prim.Native.Nat.{_-_}
 use native.Mathlib.Omega.{arith}
 use borrow.Author.Needs.{needs}
 use borrow.Author.Tests.{not-true, not-false}
-use Rattle.laws.specs.Place.{lowestFree}
+use Rattle.laws.proofs.Together.{_·_, _·³_}
+use Rattle.laws.specs.Search.{lowestFree}
 use Rattle.laws.proofs.Search.{past, here, next}
 use Rattle.ipc_rules.specs.State.{mailboxLive}
 use Rattle.ipc_rules.specs.Create.{freeMailbox}
@@ -26,22 +27,15 @@ mul-b c = omega (arith, c .before .before .pre .sizes)
 element-copy-out-b : tie.Need-element-copy-out-b Inv-loop μ-loop
 element-copy-out-b c = omega (arith, c .before .before .pre .sizes)
 
-add-i : tie.Need-add-i Inv-loop μ-loop
-add-i c = search needs
-
-loop-less : tie.Need-loop-less Inv-loop μ-loop
-loop-less c = search needs
-
 loop-again : tie.Need-loop-again Inv-loop μ-loop
-loop-again c = next _ _ _ (search needs) (search not-false) ∙ c .before .before .before .before .loop .inv
+loop-again c = next _ _ _ (search needs) (sym (c .before .is-live .ensures) ∙ not-false _ (c .if2 .left)) ∙ c .before .before .before .before .loop .inv
 
 returns : tie.Need-returns Inv-loop μ-loop
 returns c = past _ _ _ (search needs) ∙ c .before .loop .inv
 
 returns-2 : tie.Need-returns-2 Inv-loop μ-loop
-returns-2 c = here _ _ _ (search needs) (search not-true) ∙ c .before .before .before .before .loop .inv
+returns-2 c = here _ _ _ (search needs) (sym (c .before .is-live .ensures) ∙ not-true _ (c .if2 .taken)) ∙ c .before .before .before .before .loop .inv
 
 pub free-mailbox-spec : {M : Type 1} → statement M
 free-mailbox-spec =
-    tie.close
-    (tie.spec Inv-loop μ-loop loop-holds mul-b element-copy-out-b add-i loop-less loop-again returns returns-2)
+    tie.close (tie.spec Inv-loop μ-loop loop-holds mul-b element-copy-out-b ·³ (search needs) · loop-again · returns · returns-2)

@@ -6,6 +6,7 @@ use native.Mathlib.Numerals.{add-one}
 use native.Mathlib.Omega.{arith}
 use borrow.Author.Needs.{needs}
 use lib.ListN.{set}
+use Rattle.laws.proofs.Together.{_·_, _·²_, _·⁷_, _·⁸_}
 use Rattle.laws.proofs.Cases.{cases}
 use Rattle.laws.proofs.Through.{through, through-at, through-store, through-all}
 use Rattle.cap.specs.declared.CapId.{CapId}
@@ -14,7 +15,6 @@ use Rattle.ipc_rules.specs.Sound.{Sound}
 use Rattle.ipc_rules.specs.Opening.{anyRightOf}
 use Rattle.ipc_rules.specs.Revoke.{killed, wiped, withoutChannel, revokeOf}
 use Rattle.ipc_rules.specs.declared.state.Endpoint.{Endpoint}
-use Rattle.ipc_rules.specs.declared.state.Mailbox.{Mailbox}
 use Rattle.ipc_rules.specs.declared.state.Table.{Table}
 use Rattle.ipc_rules.specs.declared.opening.Opening.{Opening}
 use Rattle.ipc_rules.specs.declared.opening.Opening.the-variants.{Opens}
@@ -65,36 +65,9 @@ gave c = any-gave _ _ _ (c .before .before .before .pre) _ (c .before .before .i
 inside : (c : tie.After-known-told Inv-loop μ-loop Inv-loop2 μ-loop2) → Within (c .before .before .before .before .before .before .args .t1) (c .before .k .given .0 .0)
 inside c = any-within _ _ _ (c .before .before .before .before .before .before .pre) (sym (gave (c .before .before .before)) ∙ c .before .k .given .1)
 
-index-requires : tie.Need-index-requires Inv-loop μ-loop Inv-loop2 μ-loop2
-index-requires c κs = search needs
-
-cast-i : tie.Need-cast-i Inv-loop μ-loop Inv-loop2 μ-loop2
-cast-i c = search needs
-
-mul-ep : tie.Need-mul-ep Inv-loop μ-loop Inv-loop2 μ-loop2
-mul-ep c = search needs
-
-element-copy-out-ep : tie.Need-element-copy-out-ep Inv-loop μ-loop Inv-loop2 μ-loop2
-element-copy-out-ep c = search needs
-
-open-any-requires : tie.Need-open-any-requires Inv-loop μ-loop Inv-loop2 μ-loop2
-open-any-requires c κs = search needs
-
-enum-known-k : tie.Need-enum-known-k Inv-loop μ-loop Inv-loop2 μ-loop2
-enum-known-k c = search needs
-
-enum-told : tie.Need-enum-told Inv-loop μ-loop Inv-loop2 μ-loop2
-enum-told c = search needs
-
-raised-requires : tie.Need-raised-requires Inv-loop μ-loop Inv-loop2 μ-loop2
-raised-requires c κs = search needs
-
 returns : tie.Need-returns Inv-loop μ-loop Inv-loop2 μ-loop2
 unfolding revokeOf
 returns c = rw (c .before .raised .ensures) (search (cases, openings, gave))
-
-raised-requires-2 : tie.Need-raised-requires-2 Inv-loop μ-loop Inv-loop2 μ-loop2
-raised-requires-2 c κs = search needs
 
 returns-2 : tie.Need-returns-2 Inv-loop μ-loop Inv-loop2 μ-loop2
 returns-2 c = let w = inside (c .before .before .before) in let l = live-below _ _ (c .before .before .before .before .before .before .before .before .before .pre) (w .live) in let g : _ ≤ c .before .before .before .before .k .given .0 .0 = c .before .before .if1 .taken in absurd (omega arith)
@@ -108,27 +81,6 @@ element-copy-out-b c = omega (arith, inside (c .before))
 loop-holds : tie.Need-loop-holds Inv-loop μ-loop Inv-loop2 μ-loop2
 unfolding through
 loop-holds c = (search needs, refl)
-
-mul-killed : tie.Need-mul-killed Inv-loop μ-loop Inv-loop2 μ-loop2
-mul-killed c = search needs
-
-element-copy-out-killed : tie.Need-element-copy-out-killed Inv-loop μ-loop Inv-loop2 μ-loop2
-element-copy-out-killed c = search needs
-
-killed-requires : tie.Need-killed-requires Inv-loop μ-loop Inv-loop2 μ-loop2
-killed-requires c κs = search needs
-
-mul-t36 : tie.Need-mul-t36 Inv-loop μ-loop Inv-loop2 μ-loop2
-mul-t36 c = search needs
-
-element-set-from-t : tie.Need-element-set-from-t Inv-loop μ-loop Inv-loop2 μ-loop2
-element-set-from-t c = search needs
-
-add-j : tie.Need-add-j Inv-loop μ-loop Inv-loop2 μ-loop2
-add-j c = search needs
-
-loop-less : tie.Need-loop-less Inv-loop μ-loop Inv-loop2 μ-loop2
-loop-less c = search needs
 
 loop-again : tie.Need-loop-again Inv-loop μ-loop Inv-loop2 μ-loop2
 loop-again c = (search needs, killed-turn _ _ _ _ _ (c .before .before .before .loop .inv .1) (c .killed .ensures))
@@ -149,12 +101,6 @@ mul-t43 c = omega (arith, inside (c .before .before .before .before .before .bef
 element-set-from-t-2 : tie.Need-element-set-from-t-2 Inv-loop μ-loop Inv-loop2 μ-loop2
 element-set-from-t-2 c = omega (arith, inside (c .before .before .before .before .before .before .before))
 
-add-p : tie.Need-add-p Inv-loop μ-loop Inv-loop2 μ-loop2
-add-p c = search needs
-
-loop2-less : tie.Need-loop2-less Inv-loop μ-loop Inv-loop2 μ-loop2
-loop2-less c = search needs
-
 loop2-again : tie.Need-loop2-again Inv-loop μ-loop Inv-loop2 μ-loop2
 loop2-again c = (search needs, wiped-turn _ _ _ _ (c .before .loop2 .inv .1))
 
@@ -173,42 +119,4 @@ returns-3 c =
 
 pub revoke-channel-spec : {M : Type 1} → statement M
 revoke-channel-spec =
-    tie.close
-    (tie.spec
-    Inv-loop
-    μ-loop
-    Inv-loop2
-    μ-loop2
-    index-requires
-    cast-i
-    mul-ep
-    element-copy-out-ep
-    open-any-requires
-    enum-known-k
-    enum-told
-    raised-requires
-    returns
-    raised-requires-2
-    returns-2
-    mul-b
-    element-copy-out-b
-    loop-holds
-    mul-killed
-    element-copy-out-killed
-    killed-requires
-    mul-t36
-    element-set-from-t
-    add-j
-    loop-less
-    loop-again
-    loop2-holds
-    mul-t41
-    add-t42
-    mul-t43
-    element-set-from-t-2
-    add-p
-    loop2-less
-    loop2-again
-    mul-t13
-    element-set-from-t-3
-    returns-3)
+    tie.close (tie.spec Inv-loop μ-loop Inv-loop2 μ-loop2 ·⁸ (search needs) · returns · (search needs) · returns-2 · mul-b · element-copy-out-b · loop-holds ·⁷ (search needs) · loop-again · loop2-holds · mul-t41 · add-t42 · mul-t43 · element-set-from-t-2 ·² (search needs) · loop2-again · mul-t13 · element-set-from-t-3 · returns-3)

@@ -7,6 +7,7 @@ use Prim.Native.Nat.{ℕ, _+_, _-_, _≤_}
 use native.Mathlib.Omega.{arith}
 use borrow.Author.Needs.{needs}
 use lib.ListN.{set}
+use Rattle.laws.proofs.Together.{_·_, _·²_, _·⁵_}
 use Rattle.laws.proofs.Sweep.{Swept, swept-none, swept-yes, swept-no, swept-few, swept-all}
 use Rattle.ipc_rules.specs.State.{freshMailbox, nobody, mailboxAt, withMailbox, withMailboxes, withWaiter}
 use Rattle.ipc_rules.specs.Sound.{Sound}
@@ -48,29 +49,8 @@ module _ (task : TaskId) (t₀ : Table) (k : ℕ) {t : Table} {n : ℕ} (c : Cle
 loop-holds : tie.Need-loop-holds Inv-loop μ-loop
 loop-holds c = (search needs, record { boxes = swept-none _ _ _ _; rest = refl })
 
-mul-b : tie.Need-mul-b Inv-loop μ-loop
-mul-b c = search needs
-
-element-copy-out-b : tie.Need-element-copy-out-b Inv-loop μ-loop
-element-copy-out-b c = search needs
-
-waits-on-requires : tie.Need-waits-on-requires Inv-loop μ-loop
-waits-on-requires c κs = search needs
-
-mul-b-2 : tie.Need-mul-b-2 Inv-loop μ-loop
-mul-b-2 c = search needs
-
-element-set-from-b : tie.Need-element-set-from-b Inv-loop μ-loop
-element-set-from-b c = search needs
-
 add-cleared : tie.Need-add-cleared Inv-loop μ-loop
 add-cleared c = omega (arith, swept-few _ _ _ _ (c .before .before .before .before .loop .inv .1 .boxes))
-
-add-k : tie.Need-add-k Inv-loop μ-loop
-add-k c = search needs
-
-loop-less : tie.Need-loop-less Inv-loop μ-loop
-loop-less c = search needs
 
 loop-again : tie.Need-loop-again Inv-loop μ-loop
 loop-again c =
@@ -85,18 +65,4 @@ returns c =
 
 pub clear-waiter-spec : {M : Type 1} → statement M
 clear-waiter-spec =
-    tie.close
-    (tie.spec
-    Inv-loop
-    μ-loop
-    loop-holds
-    mul-b
-    element-copy-out-b
-    waits-on-requires
-    mul-b-2
-    element-set-from-b
-    add-cleared
-    add-k
-    loop-less
-    loop-again
-    returns)
+    tie.close (tie.spec Inv-loop μ-loop loop-holds ·⁵ (search needs) · add-cleared ·² (search needs) · loop-again · returns)

@@ -2,6 +2,7 @@
 use mathlib.Core.Path.{_≡_, sym, _∙_}
 use native.Mathlib.Omega.{arith}
 use borrow.Author.Tests.{not-true}
+use Rattle.laws.proofs.Together.{_·_, _·⁷_}
 use Rattle.laws.proofs.Cases.{cases, not-both}
 use Rattle.ipc_rules.specs.Opening.{eitherOf}
 use Rattle.ipc_rules.specs.Observe.{queuedOf}
@@ -17,27 +18,6 @@ gave c = either-gave _ _ _ (c .before .before .before .pre) _ (c .before .before
 -- what opened is a live mailbox within the arrays
 inside : (c : tie.After-known-told) → Within (c .before .before .before .before .before .before .args .t1) (c .before .k .given .0 .0)
 inside c = either-within _ _ _ (c .before .before .before .before .before .before .pre) (sym (gave (c .before .before .before)) ∙ c .before .k .given .1)
-
-index-requires : tie.Need-index-requires
-index-requires c κs = search needs
-
-cast-i : tie.Need-cast-i
-cast-i c = search needs
-
-mul-ep : tie.Need-mul-ep
-mul-ep c = search needs
-
-element-copy-out-ep : tie.Need-element-copy-out-ep
-element-copy-out-ep c = search needs
-
-open-either-requires : tie.Need-open-either-requires
-open-either-requires c κs = search needs
-
-enum-known-k : tie.Need-enum-known-k
-enum-known-k c = search needs
-
-enum-told : tie.Need-enum-told
-enum-told c = search needs
 
 returns : tie.Need-returns
 unfolding queuedOf
@@ -58,17 +38,4 @@ returns-3 c = search (cases, openings, gave)
 
 pub queued-spec : {M : Type 1} → statement M
 queued-spec =
-    tie.close
-    (tie.spec
-    index-requires
-    cast-i
-    mul-ep
-    element-copy-out-ep
-    open-either-requires
-    enum-known-k
-    enum-told
-    returns
-    mul-b
-    element-copy-out-b
-    returns-2
-    returns-3)
+    tie.close (tie.spec ·⁷ (search needs) · returns · mul-b · element-copy-out-b · returns-2 · returns-3)

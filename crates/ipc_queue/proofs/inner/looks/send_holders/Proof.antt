@@ -1,6 +1,7 @@
 -- `ipc::inner::looks::send_holders` meets its contract. Assumes nothing.
 use mathlib.Core.Path.{_≡_, sym, _∙_}
 use native.Mathlib.Omega.{arith}
+use Rattle.laws.proofs.Together.{_·_, _·⁷_}
 use Rattle.laws.proofs.Cases.{cases}
 use Rattle.cap.specs.Rights.{sendRight}
 use Rattle.ipc_rules.specs.Opening.{openingOf}
@@ -18,27 +19,6 @@ gave c = open-gave _ _ _ (c .before .before .before .pre) _ _ (c .before .before
 inside : (c : tie.After-known-told) → Within (c .before .before .before .before .before .before .args .t1) (c .before .k .given .0 .0)
 inside c = opens-within _ _ _ _ (c .before .before .before .before .before .before .pre) (sym (gave (c .before .before .before)) ∙ c .before .k .given .1)
 
-index-requires : tie.Need-index-requires
-index-requires c κs = search needs
-
-cast-i : tie.Need-cast-i
-cast-i c = search needs
-
-mul-ep : tie.Need-mul-ep
-mul-ep c = search needs
-
-element-copy-out-ep : tie.Need-element-copy-out-ep
-element-copy-out-ep c = search needs
-
-open-requires : tie.Need-open-requires
-open-requires c κs = search needs
-
-enum-known-k : tie.Need-enum-known-k
-enum-known-k c = search needs
-
-enum-told : tie.Need-enum-told
-enum-told c = search needs
-
 returns : tie.Need-returns
 unfolding holdersOf
 returns c = search (cases, openings, gave)
@@ -55,16 +35,4 @@ returns-2 c = search (cases, openings, gave)
 
 pub send-holders-spec : {M : Type 1} → statement M
 send-holders-spec =
-    tie.close
-    (tie.spec
-    index-requires
-    cast-i
-    mul-ep
-    element-copy-out-ep
-    open-requires
-    enum-known-k
-    enum-told
-    returns
-    mul-b
-    element-copy-out-b
-    returns-2)
+    tie.close (tie.spec ·⁷ (search needs) · returns · mul-b · element-copy-out-b · returns-2)

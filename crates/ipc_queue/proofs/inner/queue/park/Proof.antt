@@ -3,6 +3,7 @@ use mathlib.Core.Path.{_≡_, sym, _∙_}
 use mathlib.Core.Bool.{true, false}
 use native.Mathlib.Omega.{arith}
 use borrow.Author.Tests.{not-true}
+use Rattle.laws.proofs.Together.{_·_, _·²_, _·⁸_}
 use Rattle.laws.proofs.Cases.{cases, not-both}
 use Rattle.cap.specs.Rights.{receiveRight}
 use Rattle.ipc_rules.specs.State.{mailboxAt}
@@ -28,30 +29,6 @@ busy c = sym (c .before .other-waits .ensures) ∙ c .if4 .taken
 free : (c : tie.Else4) → otherWaits (mailboxAt (c .before .before .before .before .before .before .before .before .before .before .before .before .before .before .before .before .args .t1) (c .before .before .before .before .before .before .before .before .before .before .before .k .given .0 .0) .waiter) (c .before .before .before .before .before .before .before .before .before .before .before .before .before .before .before .before .args .me) ≡ false
 free c = sym (c .before .other-waits .ensures) ∙ c .if4 .left
 
-index-requires : tie.Need-index-requires
-index-requires c κs = search needs
-
-cast-i : tie.Need-cast-i
-cast-i c = search needs
-
-mul-ep : tie.Need-mul-ep
-mul-ep c = search needs
-
-element-copy-out-ep : tie.Need-element-copy-out-ep
-element-copy-out-ep c = search needs
-
-open-requires : tie.Need-open-requires
-open-requires c κs = search needs
-
-enum-known-k : tie.Need-enum-known-k
-enum-known-k c = search needs
-
-enum-told : tie.Need-enum-told
-enum-told c = search needs
-
-raised-requires : tie.Need-raised-requires
-raised-requires c κs = search needs
-
 returns : tie.Need-returns
 unfolding parkOf
 returns c = rw (c .before .raised .ensures) (search (cases, openings, gave))
@@ -61,9 +38,6 @@ mul-b c = omega (arith, inside c)
 
 element-copy-out-b : tie.Need-element-copy-out-b
 element-copy-out-b c = omega (arith, inside c)
-
-raised-requires-2 : tie.Need-raised-requires-2
-raised-requires-2 c κs = search needs
 
 returns-2 : tie.Need-returns-2
 returns-2 c = absurd (not-both _ (inside (c .before .before .before .before .before) .live) (not-true _ (c .before .before .if1 .taken)))
@@ -97,12 +71,6 @@ returns-4 : tie.Need-returns-4
 unfolding parkOf
 returns-4 c = search (cases, openings, gave)
 
-other-waits-requires : tie.Need-other-waits-requires
-other-waits-requires c κs = search needs
-
-raised-requires-3 : tie.Need-raised-requires-3
-raised-requires-3 c κs = search needs
-
 returns-5 : tie.Need-returns-5
 unfolding parkOf
 returns-5 c = rw (c .before .raised3 .ensures) (search (cases, openings, gave, busy) depth 12)
@@ -119,33 +87,4 @@ returns-6 c = search (cases, openings, gave, free) depth 12
 
 pub park-spec : {M : Type 1} → statement M
 park-spec =
-    tie.close
-    (tie.spec
-    index-requires
-    cast-i
-    mul-ep
-    element-copy-out-ep
-    open-requires
-    enum-known-k
-    enum-told
-    raised-requires
-    returns
-    mul-b
-    element-copy-out-b
-    raised-requires-2
-    returns-2
-    mul-msg
-    add-msg
-    mul-msg-2
-    element-copy-out-msg
-    drained-requires
-    mul-t32
-    element-set-from-t
-    returns-3
-    returns-4
-    other-waits-requires
-    raised-requires-3
-    returns-5
-    mul-b-2
-    element-set-from-b
-    returns-6)
+    tie.close (tie.spec ·⁸ (search needs) · returns · mul-b · element-copy-out-b · (search needs) · returns-2 · mul-msg · add-msg · mul-msg-2 · element-copy-out-msg · drained-requires · mul-t32 · element-set-from-t · returns-3 · returns-4 ·² (search needs) · returns-5 · mul-b-2 · element-set-from-b · returns-6)

@@ -2,6 +2,7 @@
 use mathlib.Core.Path.{_≡_, sym, _∙_}
 use native.Mathlib.Omega.{arith}
 use borrow.Author.Tests.{not-true}
+use Rattle.laws.proofs.Together.{_·_, _·⁸_}
 use Rattle.laws.proofs.Cases.{cases, not-both}
 use Rattle.cap.specs.Rights.{receiveRight}
 use Rattle.ipc_rules.specs.Opening.{openingOf}
@@ -19,30 +20,6 @@ gave c = open-gave _ _ _ (c .before .before .before .pre) _ _ (c .before .before
 inside : (c : tie.After-known-told) → Within (c .before .before .before .before .before .before .args .t1) (c .before .k .given .0 .0)
 inside c = opens-within _ _ _ _ (c .before .before .before .before .before .before .pre) (sym (gave (c .before .before .before)) ∙ c .before .k .given .1)
 
-index-requires : tie.Need-index-requires
-index-requires c κs = search needs
-
-cast-i : tie.Need-cast-i
-cast-i c = search needs
-
-mul-ep : tie.Need-mul-ep
-mul-ep c = search needs
-
-element-copy-out-ep : tie.Need-element-copy-out-ep
-element-copy-out-ep c = search needs
-
-open-requires : tie.Need-open-requires
-open-requires c κs = search needs
-
-enum-known-k : tie.Need-enum-known-k
-enum-known-k c = search needs
-
-enum-told : tie.Need-enum-told
-enum-told c = search needs
-
-raised-requires : tie.Need-raised-requires
-raised-requires c κs = search needs
-
 returns : tie.Need-returns
 unfolding recvOf
 returns c = rw (c .before .raised .ensures) (search (cases, openings, gave))
@@ -52,9 +29,6 @@ mul-b c = omega (arith, inside c)
 
 element-copy-out-b : tie.Need-element-copy-out-b
 element-copy-out-b c = omega (arith, inside c)
-
-raised-requires-2 : tie.Need-raised-requires-2
-raised-requires-2 c κs = search needs
 
 returns-2 : tie.Need-returns-2
 returns-2 c = absurd (not-both _ (inside (c .before .before .before .before .before) .live) (not-true _ (c .before .before .if1 .taken)))
@@ -90,27 +64,4 @@ returns-4 c = rw (c .drained .ensures) (search (cases, openings, gave))
 
 pub try-recv-spec : {M : Type 1} → statement M
 try-recv-spec =
-    tie.close
-    (tie.spec
-    index-requires
-    cast-i
-    mul-ep
-    element-copy-out-ep
-    open-requires
-    enum-known-k
-    enum-told
-    raised-requires
-    returns
-    mul-b
-    element-copy-out-b
-    raised-requires-2
-    returns-2
-    returns-3
-    mul-msg
-    add-msg
-    mul-msg-2
-    element-copy-out-msg
-    drained-requires
-    mul-t31
-    element-set-from-t
-    returns-4)
+    tie.close (tie.spec ·⁸ (search needs) · returns · mul-b · element-copy-out-b · (search needs) · returns-2 · returns-3 · mul-msg · add-msg · mul-msg-2 · element-copy-out-msg · drained-requires · mul-t31 · element-set-from-t · returns-4)

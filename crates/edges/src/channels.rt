@@ -1,0 +1,139 @@
+// The channel table's calls, by the numbers of document 01's log. Each function makes a call, has its answer shown and hands the table on.
+use crate::broken;
+use crate::lending;
+use crate::op;
+use crate::operands::at;
+use crate::operands::four;
+use crate::operands::id;
+use crate::operands::message;
+use crate::operands::rest;
+use crate::operands::size;
+use crate::operands::task;
+use crate::print;
+use ipc_rules::state::Table;
+use logread::op as log;
+
+// With 20 the next calls are made on the table of sizes 0, 0, 1 that comes back.
+fn new(w: &[u64]) -> Table {
+    let x = ipc::new(size(w, 0), size(w, 1), size(w, 2));
+    let a = x.answer;
+    print::answer(a.shown());
+    x.table
+}
+
+fn create(t: Table, w: &[u64]) -> Table {
+    let x = if at(w, 0) == 1 {
+        ipc::create_channel_ephemeral(t)
+    } else {
+        ipc::create_channel(t)
+    };
+    let a = x.answer;
+    print::answer(a.shown());
+    x.table
+}
+
+fn send(t: Table, w: &[u64]) -> Table {
+    let x = ipc::send(t, id(w, 0), message(rest(w, 1)));
+    let a = x.answer;
+    print::answer(a.shown());
+    x.table
+}
+
+fn receive(t: Table, w: &[u64]) -> Table {
+    let x = ipc::try_recv(t, id(w, 0));
+    let a = x.answer;
+    print::answer(a.shown());
+    x.table
+}
+
+fn park(t: Table, w: &[u64]) -> Table {
+    let x = ipc::park(t, id(w, 0), task(rest(w, 1)));
+    let a = x.answer;
+    print::answer(a.shown());
+    x.table
+}
+
+fn revoke(t: Table, w: &[u64]) -> Table {
+    let x = ipc::revoke_channel(t, id(w, 0));
+    let a = x.answer;
+    print::answer(a.shown());
+    x.table
+}
+
+fn register(op: u8, t: Table, w: &[u64]) -> Table {
+    let x = if op == op::REGISTER_LENT {
+        lending::register(t, w)
+    } else {
+        ipc::register_holds(t, w)
+    };
+    let a = x.answer;
+    print::answer(a.shown());
+    x.table
+}
+
+fn release(t: Table, w: &[u64]) -> Table {
+    let x = ipc::release_holds(t, four(w));
+    let a = x.answer;
+    let woken = x.waiters;
+    print::answer(a.shown(woken));
+    x.table
+}
+
+fn clear_waiter(t: Table, w: &[u64]) -> Table {
+    let x = ipc::clear_waiter(t, task(w));
+    let a = x.answer;
+    print::answer(a.shown());
+    x.table
+}
+
+fn note(op: u8, t: Table) -> Table {
+    let x = if op == log::NOTE_AUTHORITY {
+        ipc::note_authority_refusal(t)
+    } else {
+        ipc::note_state_refusal(t)
+    };
+    let a = x.answer;
+    print::answer(a.shown());
+    x.table
+}
+
+// The calls that may change the table.
+pub(crate) fn call(op: u8, t: Table, w: &[u64]) -> Table {
+    match op {
+        log::NEW => new(w),
+        log::CREATE => create(t, w),
+        log::SEND => send(t, w),
+        log::RECEIVE => receive(t, w),
+        log::PARK => park(t, w),
+        log::REVOKE => revoke(t, w),
+        log::REGISTER | op::REGISTER_LENT => register(op, t, w),
+        log::RELEASE => release(t, w),
+        log::CLEAR_WAITER => clear_waiter(t, w),
+        log::NOTE_AUTHORITY | log::NOTE_STATE => note(op, t),
+        op::SET_HEAD => broken::set_head(t, w),
+        op::SET_ENDPOINT => broken::set_endpoint(t, w),
+        op::SET_MAILBOX => broken::set_mailbox(t, w),
+        op::SET_MESSAGE => broken::set_message(t, w),
+        _ => t,
+    }
+}
+
+// Those that leave it as it is.
+pub(crate) fn look(op: u8, t: Table, w: &[u64]) {
+    match op {
+        log::QUEUED => {
+            let a = ipc::queued(t, id(w, 0));
+            print::answer(a.shown());
+        }
+        log::HOLDERS => {
+            let a = ipc::send_holders(t, id(w, 0));
+            print::answer(a.shown());
+        }
+        log::COUNTS => {
+            let a = ipc::refusals(t);
+            print::answer(a.shown());
+        }
+        op::LOOK => broken::look(t.counters.next_gen, t.sizes),
+        _ => {}
+    }
+}

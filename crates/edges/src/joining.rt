@@ -1,0 +1,61 @@
+// The joined steps, by the numbers of document 01's log. Each function shows an answer and hands both tables on.
+use crate::channels;
+use crate::operands::id;
+use crate::operands::rest;
+use crate::operands::size;
+use crate::print;
+use crate::rows;
+use capslots::Table as Rows;
+use ipc_rules::state::Table as Channels;
+use logread::op;
+
+pub(crate) struct Both {
+    pub(crate) channels: Channels,
+    pub(crate) rows: Rows,
+}
+
+fn paired(channels: Channels, rows: Rows) -> Both {
+    Both { channels, rows }
+}
+
+fn spawn(b: Both, w: &[u64]) -> Both {
+    let x = joined::spawn(b.channels, b.rows, size(w, 0), rest(w, 1));
+    let a = x.answer;
+    print::answer(a.shown());
+    paired(x.channels, x.rows)
+}
+
+fn leave(b: Both, w: &[u64]) -> Both {
+    let x = joined::leave(b.channels, b.rows, size(w, 0));
+    let a = x.answer;
+    let waiters = x.waiters;
+    print::answer(a.shown(waiters));
+    paired(x.channels, x.rows)
+}
+
+fn give(b: Both, w: &[u64]) -> Both {
+    let x = joined::give(b.channels, b.rows, size(w, 0), size(w, 1), id(w, 2));
+    let a = x.answer;
+    print::answer(a.shown());
+    paired(x.channels, x.rows)
+}
+
+// A call on one of the two, or on none.
+fn single(op: u8, b: Both, w: &[u64]) -> Both {
+    channels::look(op, b.channels, w);
+    paired(channels::call(op, b.channels, w), rows::call(op, b.rows, w))
+}
+
+pub(crate) fn call(op: u8, b: Both, w: &[u64]) -> Both {
+    match op {
+        op::SPAWN => spawn(b, w),
+        op::LEAVE => leave(b, w),
+        op::GIVE => give(b, w),
+        _ => single(op, b, w),
+    }
+}
+
+pub(crate) fn fresh() -> Both {
+    let x = ipc::new(0, 0, 1);
+    paired(x.table, capslots::new())
+}

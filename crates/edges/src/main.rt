@@ -1,0 +1,39 @@
+// Runs a script of edges on the compiled code.
+mod binding;
+mod broken;
+mod channels;
+mod joining;
+mod lending;
+mod mints;
+mod op;
+mod operands;
+mod print;
+mod rows;
+mod script;
+mod wrap;
+
+// Nothing says that the input ends, and a proved loop has to: no script has as many calls.
+const MOST_CALLS: u32 = u32::MAX;
+
+fn main() {
+    let mut both = joining::fresh();
+    let mut tasks = taskcap::new();
+    let mut irqs = irqcap::new();
+    let mut left = MOST_CALLS;
+    while left > 0 {
+        left -= 1;
+        if !script::call_follows() {
+            return;
+        }
+        let mut words = [0u64; script::ROOM];
+        let n = script::numbers(&mut words);
+        let line = &words[..n];
+        let op = operands::byte(line, 0);
+        let w = operands::rest(line, 1);
+        tasks = mints::tasks(op, tasks, w);
+        irqs = mints::irqs(op, irqs, w);
+        both = joining::call(op, both, w);
+        binding::call(op, w);
+        print::end();
+    }
+}

@@ -1,0 +1,56 @@
+-- A refusal shows no values. Assumes nothing.
+use mathlib.Core.Path.{_≡_, refl}
+use mathlib.Core.List.{[]}
+use Prim.Native.Nat.{ℕ}
+use Rattle.ipc_rules.specs.Answers.{createValues, sendValues, recvValues, parkValues, queuedValues, holdersValues, revokeValues}
+use Rattle.ipc_rules.specs.declared.state.Channel.{Channel}
+use Rattle.ipc_rules.specs.declared.state.Message.{Message}
+use Rattle.ipc_rules.specs.declared.state.Waiter.{Waiter}
+use Rattle.ipc_rules.specs.declared.answers.CreateAnswer as create
+use Rattle.ipc_rules.specs.declared.answers.SendAnswer as send
+use Rattle.ipc_rules.specs.declared.answers.RecvAnswer as recv
+use Rattle.ipc_rules.specs.declared.answers.ParkAnswer as park
+use Rattle.ipc_rules.specs.declared.answers.QueuedAnswer as queued
+use Rattle.ipc_rules.specs.declared.answers.HoldersAnswer as holders
+use Rattle.ipc_rules.specs.declared.answers.RevokeAnswer as revoke
+
+pub create-none : (a : create.CreateAnswer) → ((x : Channel) → a ≡ create.the-variants.Created x → ⊥) → createValues a ≡ []
+create-none (create.the-variants.Created x) h = absurd (h x refl)
+create-none create.the-variants.NoMailbox h = refl
+create-none create.the-variants.NoEndpoint h = refl
+create-none create.the-variants.BadTable h = refl
+
+pub send-none : (a : send.SendAnswer) → ((x : Waiter) → a ≡ send.the-variants.Sent x → ⊥) → sendValues a ≡ []
+send-none (send.the-variants.Sent x) h = absurd (h x refl)
+send-none send.the-variants.BadCap h = refl
+send-none send.the-variants.Full h = refl
+send-none send.the-variants.BadTable h = refl
+
+pub recv-none : (a : recv.RecvAnswer) → ((x : Message) → a ≡ recv.the-variants.Received x → ⊥) → recvValues a ≡ []
+recv-none (recv.the-variants.Received x) h = absurd (h x refl)
+recv-none recv.the-variants.BadCap h = refl
+recv-none recv.the-variants.Empty h = refl
+recv-none recv.the-variants.BadTable h = refl
+
+pub queued-none : (a : queued.QueuedAnswer) → ((x : ℕ) → a ≡ queued.the-variants.Queued x → ⊥) → queuedValues a ≡ []
+queued-none (queued.the-variants.Queued x) h = absurd (h x refl)
+queued-none queued.the-variants.BadCap h = refl
+queued-none queued.the-variants.BadTable h = refl
+
+pub holders-none : (a : holders.HoldersAnswer) → ((x : ℕ) → a ≡ holders.the-variants.Holders x → ⊥) → holdersValues a ≡ []
+holders-none (holders.the-variants.Holders x) h = absurd (h x refl)
+holders-none holders.the-variants.BadCap h = refl
+holders-none holders.the-variants.BadTable h = refl
+
+pub revoke-none : (a : revoke.RevokeAnswer) → ((x : Waiter) → a ≡ revoke.the-variants.Revoked x → ⊥) → revokeValues a ≡ []
+revoke-none (revoke.the-variants.Revoked x) h = absurd (h x refl)
+revoke-none revoke.the-variants.BadCap h = refl
+revoke-none revoke.the-variants.BadTable h = refl
+
+pub park-none : (a : park.ParkAnswer) → (a ≡ park.the-variants.Parked → ⊥) → ((m : Message) → a ≡ park.the-variants.Given m → ⊥) → parkValues a ≡ []
+park-none park.the-variants.Parked h g = absurd (h refl)
+park-none (park.the-variants.Given m) h g = absurd (g m refl)
+park-none park.the-variants.BadCap h g = refl
+park-none park.the-variants.Busy h g = refl
+park-none park.the-variants.Cancelled h g = refl
+park-none park.the-variants.BadTable h g = refl

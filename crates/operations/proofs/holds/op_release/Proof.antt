@@ -1,0 +1,34 @@
+-- `operations::holds::op_release` meets its contract. Assumes nothing.
+use Rattle.operations.specs.Holds.{releaseDone, released}
+use Rattle.operations.proofs.Packs.{packs}
+use borrow.Author.Needs.{needs}
+use Rattle.operations.proofs.holds.op_release.Statement.{statement}
+use Rattle.operations.proofs.holds.op_release.Tie as tie
+
+list-slots-requires : tie.Need-list-slots-requires
+list-slots-requires c κs = search needs
+
+release-holds-requires : tie.Need-release-holds-requires
+release-holds-requires c κs = search needs
+
+shown-requires : tie.Need-shown-requires
+shown-requires c κs = search needs
+
+with-channels-requires : tie.Need-with-channels-requires
+with-channels-requires c κs = search needs
+
+returns : tie.Need-returns
+unfolding releaseDone
+returns c =
+    rw (← c .before .before .before .before .list-slots .ensures)
+    (packs (released (c .before .before .before .before .before .before .args .t)) (c .before .before .before .release-holds .ensures) (c .before .shown .ensures) (c .with-channels .ensures))
+
+pub op-release-spec : {M : Type 1} → statement M
+op-release-spec =
+    tie.close
+    (tie.spec
+    list-slots-requires
+    release-holds-requires
+    shown-requires
+    with-channels-requires
+    returns)

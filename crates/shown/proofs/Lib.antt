@@ -1,0 +1,4 @@
+pub mod Few
+pub mod Appends
+pub mod Read
+pub mod Shows
