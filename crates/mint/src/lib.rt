@@ -76,15 +76,14 @@ impl LookupAnswer {
     }
 }
 
-// A wrapped generation must not come out as 0, which is what an entry that was never minted carries.
+// 1 after 65,535, otherwise one more. So none is 0, which is what an entry that was never minted carries.
 pub fn next_generation(g: u16) -> u16
     ensures { λ r. ⌜ r ≡ nextGeneration g ⌝ }
 {
-    let next = std::num::wrapping_add_u16(g, 1);
-    if next == 0 {
+    if g == 65535 {
         return 1;
     }
-    next
+    g + 1
 }
 
 // The entry `e` in its next life, for `number`.
