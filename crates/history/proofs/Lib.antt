@@ -21,6 +21,7 @@ pub mod LogIds
 pub mod LogMessages
 pub mod LogWaits
 pub mod Log
+pub mod StateCount
 pub mod Prints
 pub mod ExamplesIds
 pub mod WaitsTurn

@@ -164,7 +164,7 @@ register-counts t words σ = by (registers.register-call-ways t words σ)
     by (registers.bad-word _ q) = rw q
     by (registers.all _ a x) = rw a (x .counts)
 
-after-counts : (t : Table) (call : Call) → Sound t → after t call .counters .refusals ≡ countsAfter call (numberOf (answer t call)) (t .counters .refusals)
+pub after-counts : (t : Table) (call : Call) → Sound t → after t call .counters .refusals ≡ countsAfter call (numberOf (answer t call)) (t .counters .refusals)
 unfolding answer after countsAfter countsBy pick releaseOf clearOf
 after-counts t (create b) σ = create-counts t b σ
 after-counts t (send c m) σ = send-counts t σ c m

@@ -20,3 +20,4 @@ pub mod LogIds
 pub mod LogMessages
 pub mod LogWaits
 pub mod Log
+pub mod StateCount

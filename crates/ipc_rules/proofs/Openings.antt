@@ -18,7 +18,7 @@ use Rattle.cap.specs.declared.slot.Slot.{Slot}
 use Rattle.ring.specs.Ring.{IsRing}
 use Rattle.ipc_rules.specs.State.{freshMailbox, withMailbox, endIn, endpointAt, endpointLive, mailboxAt, mailboxLive}
 use Rattle.ipc_rules.specs.Sound.{Sound, InRange}
-use Rattle.ipc_rules.specs.Opening.{openOf, openEither, openAny, openingOf, eitherOf, anyRightOf, holdOf, opened}
+use Rattle.ipc_rules.specs.Opening.{openOf, openEither, openAny, openingOf, eitherOf, anyRightOf, holdOf, opened, LiveBelow, SoundOpensLive}
 use Rattle.ipc_rules.specs.declared.state.Endpoint.{Endpoint}
 use Rattle.ipc_rules.specs.declared.state.Mailbox.{Mailbox}
 use Rattle.ipc_rules.specs.declared.state.Table.{Table}
@@ -121,19 +121,22 @@ pub record Within (t : Table) (k : ℕ) : Type 0 where
   pub sizes : InRange (t .sizes)
   pub ring : IsRing (t .sizes .depth) (mailboxAt t k .ring)
 
-pub live-within : (t : Table) (k : ℕ) → Sound t → mailboxLive t k ≡ true → Within t k
-live-within t k s l =
-    let b = live-below t k s l in
+within : (t : Table) (k : ℕ) → Sound t → LiveBelow t k → Within t k
+within t k s h =
+    let b = h .below in
     let z = s .sizes in
-    record { box = omega arith; live = l; sizes = z; ring = s .ring k l }
+    record { box = omega arith; live = h .live; sizes = z; ring = s .ring k (h .live) }
+
+lives : (t : Table) (k : ℕ) → Sound t → mailboxLive t k ≡ true → LiveBelow t k
+lives t k s l = record { below = live-below t k s l; live = l }
+
+pub live-within : (t : Table) (k : ℕ) → Sound t → mailboxLive t k ≡ true → Within t k
+live-within t k s l = within t k s (lives t k s l)
 
 -- what opens in a sound table is a live mailbox
 pub opens-live : (t : Table) (c : CapId) (need : CapRights) (k : ℕ) → Sound t → openingOf t c need ≡ Opens k → mailboxLive t k ≡ true
 opens-live t c need k s e =
     let o = opened-of t c need k e in rw (← o .names) (s .names (indexOf c) (o .live) .live)
-
-pub opens-within : (t : Table) (c : CapId) (need : CapRights) (k : ℕ) → Sound t → openingOf t c need ≡ Opens k → Within t k
-opens-within t c need k s e = live-within t k s (opens-live t c need k s e)
 
 -- ---- the other openings
 -- either right: it opens by the one or by the other
@@ -145,18 +148,12 @@ either-cases t c k = by (openingOf t c sendRight)
     by Shut e = inr e
     by (Opens j) e = inl e
 
-pub either-within : (t : Table) (c : CapId) (k : ℕ) → Sound t → eitherOf t c ≡ Opens k → Within t k
-either-within t c k s e = ⊎-elim (opens-within t c sendRight k s) (opens-within t c receiveRight k s) (either-cases t c k e)
-
 -- a hold is of a present id that opens for send
 pub hold-opens : (t : Table) (x : Slot) (k : ℕ) → holdOf t x ≡ Opens k → (x .present ≡ true) × (openingOf t (x .id) sendRight ≡ Opens k)
 unfolding holdOf
 hold-opens t x k =
     all-pick (λ o. o ≡ Opens k → (x .present ≡ true) × (openingOf t (x .id) sendRight ≡ Opens k)) (x .present) _ _
     (λ p e. (p, e)) (λ _ e. let z : _≡_ {A = ℕ} 0 1 = cc in absurd (omega arith))
-
-pub hold-within : (t : Table) (x : Slot) (k : ℕ) → Sound t → holdOf t x ≡ Opens k → Within t k
-hold-within t x k s e = opens-within t (x .id) sendRight k s (hold-opens t x k e .1)
 
 -- a revocation's endpoint is live, of the id's generation, and names the mailbox
 pub record AnyRight (t : Table) (c : CapId) (k : ℕ) : Type 0 where
@@ -178,6 +175,24 @@ any-right-of t c k e =
     let p = any-tests (ltb (indexOf c) (t .sizes .endpoints)) (endpointLive t (indexOf c)) (eqb (endpointAt t (indexOf c) .generation) (generationOf c)) _ k e in
     record { below = ltb-true _ _ (p .0 .0); live = p .0 .1; generation = eqb-true _ _ (p .1); names = p .2 }
 
+-- ---- whatever an id opens in a sound table is a live mailbox below m; a call that opened one reads and writes within the arrays by this
+pub opens-live-below : SoundOpensLive
+opens-live-below t s =
+    record {
+      right = λ c need k e. lives t k s (opens-live t c need k s e);
+      either = λ c k e. ⊎-elim (λ h. lives t k s (opens-live t c sendRight k s h)) (λ h. lives t k s (opens-live t c receiveRight k s h)) (either-cases t c k e);
+      revoked = λ c k e. let o = any-right-of t c k e in lives t k s (rw (← o .names) (s .names (indexOf c) (o .live) .live));
+      held = λ x k e. lives t k s (opens-live t (x .id) sendRight k s (hold-opens t x k e .1));
+    }
+
+pub opens-within : (t : Table) (c : CapId) (need : CapRights) (k : ℕ) → Sound t → openingOf t c need ≡ Opens k → Within t k
+opens-within t c need k s e = within t k s (opens-live-below t s .right c need k e)
+
+pub either-within : (t : Table) (c : CapId) (k : ℕ) → Sound t → eitherOf t c ≡ Opens k → Within t k
+either-within t c k s e = within t k s (opens-live-below t s .either c k e)
+
+pub hold-within : (t : Table) (x : Slot) (k : ℕ) → Sound t → holdOf t x ≡ Opens k → Within t k
+hold-within t x k s e = within t k s (opens-live-below t s .held x k e)
+
 pub any-within : (t : Table) (c : CapId) (k : ℕ) → Sound t → anyRightOf t c ≡ Opens k → Within t k
-any-within t c k s e =
-    let o = any-right-of t c k e in live-within t k s (rw (← o .names) (s .names (indexOf c) (o .live) .live))
+any-within t c k s e = within t k s (opens-live-below t s .revoked c k e)

@@ -12,7 +12,7 @@ use Rattle.ipc_rules.specs.declared.answers.NoteAnswer.the-variants.{Not
 unfoldable pub raised : ℕ → ℕ
 raised n = pick (ltb n 4294967295) (n + 1) 4294967295
 
--- one refusal more of a kind, the other two counts as they were: for want of authority, for want of room, for a state that should not be
+-- one refusal more of a kind, the other two counts as they were: for want of authority, for want of room, for a state: another task waits there, or so it was noted
 abbrev pub authorityNoted : Refusals → Refusals
 authorityNoted x = withAuthority x (raised (x .authority))
 

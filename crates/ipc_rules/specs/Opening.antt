@@ -1,6 +1,7 @@
 -- Document 01, "Channels": when an id opens an endpoint, and what is done with an opening.
-use mathlib.Core.Bool.{Bool}
-use Prim.Native.Nat.{ℕ}
+use mathlib.Core.Path.{_≡_}
+use mathlib.Core.Bool.{Bool, true}
+use Prim.Native.Nat.{ℕ, _<_}
 use lib.Dec.{ltb, eqb}
 use Rattle.laws.specs.Pick.{pick}
 use Rattle.cap.specs.Id.{indexOf, generationOf}
@@ -8,7 +9,8 @@ use Rattle.cap.specs.Rights.{containsAll, sendRight, receiveRight}
 use Rattle.cap.specs.declared.CapId.{CapId}
 use Rattle.cap.specs.declared.CapRights.{CapRights}
 use Rattle.cap.specs.declared.slot.Slot.{Slot}
-use Rattle.ipc_rules.specs.State.{endpointAt, endLives}
+use Rattle.ipc_rules.specs.State.{endpointAt, endLives, mailboxLive}
+use Rattle.ipc_rules.specs.Sound.{Sound}
 use Rattle.ipc_rules.specs.declared.state.Endpoint.{Endpoint}
 use Rattle.ipc_rules.specs.declared.state.Table.{Table}
 use Rattle.ipc_rules.specs.declared.opening.Opening.{Opening}
@@ -56,3 +58,19 @@ anyRightOf t c = openAny (inReach t (indexOf c)) (endpointAt t (indexOf c)) c
 -- the send end that a slot holds: a vacant slot holds none, and its id is not read
 unfoldable pub holdOf : Table → Slot → Opening
 holdOf t s = pick (s .present) (openingOf t (s .id) sendRight) Shut
+
+-- ---- what an id opens in a sound table
+pub record LiveBelow (t : Table) (k : ℕ) : Type 0 where
+  pub below : k < t .sizes .mailboxes
+  pub live : mailboxLive t k ≡ true
+
+-- with whatever right is needed, with either right, for a revocation, and as a slot's hold
+pub record OpensLive (t : Table) : Type 0 where
+  pub right : (c : CapId) (need : CapRights) (k : ℕ) → openingOf t c need ≡ Opens k → LiveBelow t k
+  pub either : (c : CapId) (k : ℕ) → eitherOf t c ≡ Opens k → LiveBelow t k
+  pub revoked : (c : CapId) (k : ℕ) → anyRightOf t c ≡ Opens k → LiveBelow t k
+  pub held : (x : Slot) (k : ℕ) → holdOf t x ≡ Opens k → LiveBelow t k
+
+-- a live mailbox below m
+abbrev pub SoundOpensLive : Type 0
+SoundOpensLive = (t : Table) → Sound t → OpensLive t

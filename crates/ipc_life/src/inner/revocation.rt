@@ -29,14 +29,6 @@ pub fn revoke_channel(mut t: Table, cap: CapId) -> Revoking
             table: t,
         };
     };
-    // The Rust's guard: no sound table gets here.
-    if k >= t.sizes.mailboxes {
-        t.counters.refusals.state = raised(t.counters.refusals.state);
-        return Revoking {
-            answer: RevokeAnswer::BadCap,
-            table: t,
-        };
-    }
     let b = t.mailboxes[k];
     let woken = b.waiter;
     let mut j: usize = 0;

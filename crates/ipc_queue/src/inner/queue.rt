@@ -39,14 +39,6 @@ pub fn send(mut t: Table, cap: CapId, msg: Message) -> Sending
         };
     };
     let b = t.mailboxes[k];
-    // The Rust's guard: no sound table gets here.
-    if !b.live {
-        t.counters.refusals.state = raised(t.counters.refusals.state);
-        return Sending {
-            answer: SendAnswer::BadCap,
-            table: t,
-        };
-    }
     if b.ring.len == t.sizes.depth {
         t.counters.refusals.full = raised(t.counters.refusals.full);
         return Sending {
@@ -79,14 +71,6 @@ pub fn try_recv(mut t: Table, cap: CapId) -> Receiving
         };
     };
     let b = t.mailboxes[k];
-    // The Rust's guard: no sound table gets here.
-    if !b.live {
-        t.counters.refusals.state = raised(t.counters.refusals.state);
-        return Receiving {
-            answer: RecvAnswer::BadCap,
-            table: t,
-        };
-    }
     if b.ring.len == 0 {
         return Receiving {
             answer: RecvAnswer::Empty,
@@ -117,14 +101,6 @@ pub fn park(mut t: Table, cap: CapId, me: TaskId) -> Parking
         };
     };
     let mut b = t.mailboxes[k];
-    // The Rust's guard: no sound table gets here.
-    if !b.live {
-        t.counters.refusals.state = raised(t.counters.refusals.state);
-        return Parking {
-            answer: ParkAnswer::BadCap,
-            table: t,
-        };
-    }
     if 0 < b.ring.len {
         let msg = t.messages[k * MAX_DEPTH + b.ring.tail];
         t.mailboxes[k] = drained(b, t.sizes.depth);

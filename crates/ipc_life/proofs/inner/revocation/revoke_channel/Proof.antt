@@ -20,7 +20,7 @@ use Rattle.ipc_rules.specs.declared.opening.Opening.{Opening}
 use Rattle.ipc_rules.specs.declared.opening.Opening.the-variants.{Opens}
 use Rattle.ipc_rules.specs.declared.answers.Revoking.{Revoking}
 use Rattle.ipc_rules.specs.declared.answers.RevokeAnswer.the-variants.{Revoked}
-use Rattle.ipc_rules.proofs.Openings.{openings, opens, any-gave, any-within, live-below, Within}
+use Rattle.ipc_rules.proofs.Openings.{openings, opens, any-gave, any-within, Within}
 use Rattle.ipc_life.proofs.inner.revocation.revoke_channel.Statement.{statement}
 use Rattle.ipc_life.proofs.inner.revocation.revoke_channel.Tie as tie
 
@@ -69,14 +69,11 @@ returns : tie.Need-returns Inv-loop μ-loop Inv-loop2 μ-loop2
 unfolding revokeOf
 returns c = rw (c .before .raised .ensures) (search (cases, openings, gave))
 
-returns-2 : tie.Need-returns-2 Inv-loop μ-loop Inv-loop2 μ-loop2
-returns-2 c = let w = inside (c .before .before .before) in let l = live-below _ _ (c .before .before .before .before .before .before .before .before .before .pre) (w .live) in let g : _ ≤ c .before .before .before .before .k .given .0 .0 = c .before .before .if1 .taken in absurd (omega arith)
-
 mul-b : tie.Need-mul-b Inv-loop μ-loop Inv-loop2 μ-loop2
-mul-b c = omega (arith, inside (c .before))
+mul-b c = omega (arith, inside c)
 
 element-copy-out-b : tie.Need-element-copy-out-b Inv-loop μ-loop Inv-loop2 μ-loop2
-element-copy-out-b c = omega (arith, inside (c .before))
+element-copy-out-b c = omega (arith, inside c)
 
 loop-holds : tie.Need-loop-holds Inv-loop μ-loop Inv-loop2 μ-loop2
 unfolding through
@@ -89,34 +86,34 @@ loop2-holds : tie.Need-loop2-holds Inv-loop μ-loop Inv-loop2 μ-loop2
 unfolding wiped
 loop2-holds c = (search needs, refl)
 
-mul-t41 : tie.Need-mul-t41 Inv-loop μ-loop Inv-loop2 μ-loop2
-mul-t41 c = omega (arith, inside (c .before .before .before .before .before .before .before))
+mul-t37 : tie.Need-mul-t37 Inv-loop μ-loop Inv-loop2 μ-loop2
+mul-t37 c = omega (arith, inside (c .before .before .before .before .before .before))
 
-add-t42 : tie.Need-add-t42 Inv-loop μ-loop Inv-loop2 μ-loop2
-add-t42 c = omega (arith, inside (c .before .before .before .before .before .before .before))
+add-t38 : tie.Need-add-t38 Inv-loop μ-loop Inv-loop2 μ-loop2
+add-t38 c = omega (arith, inside (c .before .before .before .before .before .before))
 
-mul-t43 : tie.Need-mul-t43 Inv-loop μ-loop Inv-loop2 μ-loop2
-mul-t43 c = omega (arith, inside (c .before .before .before .before .before .before .before))
+mul-t39 : tie.Need-mul-t39 Inv-loop μ-loop Inv-loop2 μ-loop2
+mul-t39 c = omega (arith, inside (c .before .before .before .before .before .before))
 
 element-set-from-t-2 : tie.Need-element-set-from-t-2 Inv-loop μ-loop Inv-loop2 μ-loop2
-element-set-from-t-2 c = omega (arith, inside (c .before .before .before .before .before .before .before))
+element-set-from-t-2 c = omega (arith, inside (c .before .before .before .before .before .before))
 
 loop2-again : tie.Need-loop2-again Inv-loop μ-loop Inv-loop2 μ-loop2
 loop2-again c = (search needs, wiped-turn _ _ _ _ (c .before .loop2 .inv .1))
 
-mul-t13 : tie.Need-mul-t13 Inv-loop μ-loop Inv-loop2 μ-loop2
-mul-t13 c = omega (arith, inside (c .before .before .before .before .before .before .before))
+mul-t12 : tie.Need-mul-t12 Inv-loop μ-loop Inv-loop2 μ-loop2
+mul-t12 c = omega (arith, inside (c .before .before .before .before .before .before))
 
 element-set-from-t-3 : tie.Need-element-set-from-t-3 Inv-loop μ-loop Inv-loop2 μ-loop2
-element-set-from-t-3 c = omega (arith, inside (c .before .before .before .before .before .before .before))
+element-set-from-t-3 c = omega (arith, inside (c .before .before .before .before .before .before))
 
-returns-3 : tie.Need-returns-3 Inv-loop μ-loop Inv-loop2 μ-loop2
-returns-3 c =
+returns-2 : tie.Need-returns-2 Inv-loop μ-loop Inv-loop2 μ-loop2
+returns-2 c =
     let e : c .before .before .before .loop .j ≡ 64 = omega (arith, c .before .before .loop-test .left, c .before .before .before .loop .inv .0) in
     let g : c .before .loop2 .p ≡ 8 = omega (arith, c .loop2-test .left, c .before .loop2 .inv .0) in
-    revoked _ _ (c .before .before .before .before .before .before .before .before .k .given .0 .0) _ (gave (c .before .before .before .before .before .before .before .before .before .before)) (c .before .before .before .before .before .before .before .before .k .given .1)
-    (ended (c .before .before .before .before .before .before .before .before .before .before .before .before .before .args .t1) (c .before .before .before .loop .t) (c .before .loop2 .t) _ (c .before .before .before .before .before .before .before .before .before .before .before .before .before .pre) (rw e at (c .before .before .before .loop .inv .1)) (rw g at (c .before .loop2 .inv .1)))
+    revoked _ _ (c .before .before .before .before .before .before .before .k .given .0 .0) _ (gave (c .before .before .before .before .before .before .before .before .before)) (c .before .before .before .before .before .before .before .k .given .1)
+    (ended (c .before .before .before .before .before .before .before .before .before .before .before .before .args .t1) (c .before .before .before .loop .t) (c .before .loop2 .t) _ (c .before .before .before .before .before .before .before .before .before .before .before .before .pre) (rw e at (c .before .before .before .loop .inv .1)) (rw g at (c .before .loop2 .inv .1)))
 
 pub revoke-channel-spec : {M : Type 1} → statement M
 revoke-channel-spec =
-    tie.close (tie.spec Inv-loop μ-loop Inv-loop2 μ-loop2 ·⁸ (search needs) · returns · (search needs) · returns-2 · mul-b · element-copy-out-b · loop-holds ·⁷ (search needs) · loop-again · loop2-holds · mul-t41 · add-t42 · mul-t43 · element-set-from-t-2 ·² (search needs) · loop2-again · mul-t13 · element-set-from-t-3 · returns-3)
+    tie.close (tie.spec Inv-loop μ-loop Inv-loop2 μ-loop2 ·⁸ (search needs) · returns · mul-b · element-copy-out-b · loop-holds ·⁷ (search needs) · loop-again · loop2-holds · mul-t37 · add-t38 · mul-t39 · element-set-from-t-2 ·² (search needs) · loop2-again · mul-t12 · element-set-from-t-3 · returns-2)

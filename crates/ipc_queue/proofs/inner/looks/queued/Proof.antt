@@ -1,9 +1,8 @@
 -- `ipc::inner::looks::queued` meets its contract. Assumes nothing.
 use mathlib.Core.Path.{_≡_, sym, _∙_}
 use native.Mathlib.Omega.{arith}
-use borrow.Author.Tests.{not-true}
 use Rattle.laws.proofs.Together.{_·_, _·⁷_}
-use Rattle.laws.proofs.Cases.{cases, not-both}
+use Rattle.laws.proofs.Cases.{cases}
 use Rattle.ipc_rules.specs.Opening.{eitherOf}
 use Rattle.ipc_rules.specs.Observe.{queuedOf}
 use Rattle.ipc_rules.proofs.Openings.{openings, either-gave, either-within, Within}
@@ -30,12 +29,9 @@ element-copy-out-b : tie.Need-element-copy-out-b
 element-copy-out-b c = omega (arith, inside c)
 
 returns-2 : tie.Need-returns-2
-returns-2 c = absurd (not-both _ (inside (c .before .before .before) .live) (not-true _ (c .if1 .taken)))
-
-returns-3 : tie.Need-returns-3
 unfolding queuedOf
-returns-3 c = search (cases, openings, gave)
+returns-2 c = search (cases, openings, gave)
 
 pub queued-spec : {M : Type 1} → statement M
 queued-spec =
-    tie.close (tie.spec ·⁷ (search needs) · returns · mul-b · element-copy-out-b · returns-2 · returns-3)
+    tie.close (tie.spec ·⁷ (search needs) · returns · mul-b · element-copy-out-b · returns-2)

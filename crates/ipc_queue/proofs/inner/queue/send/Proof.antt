@@ -1,9 +1,8 @@
--- `ipc::inner::queue::send` meets its contract. What `open` gave is what the rule asks, and a mailbox that opens is live, so the arm for a dead one is never reached. Assumes nothing.
+-- `ipc::inner::queue::send` meets its contract. What `open` gave is what the rule asks, and a mailbox that opens is live. Assumes nothing.
 use mathlib.Core.Path.{_≡_, sym, _∙_}
 use native.Mathlib.Omega.{arith}
-use borrow.Author.Tests.{not-true}
 use Rattle.laws.proofs.Together.{_·_, _·⁸_}
-use Rattle.laws.proofs.Cases.{cases, not-both}
+use Rattle.laws.proofs.Cases.{cases}
 use Rattle.cap.specs.Rights.{sendRight}
 use Rattle.ipc_rules.specs.Opening.{openingOf}
 use Rattle.ipc_rules.specs.Send.{sendOf}
@@ -31,37 +30,34 @@ element-copy-out-b : tie.Need-element-copy-out-b
 element-copy-out-b c = omega (arith, inside c)
 
 returns-2 : tie.Need-returns-2
-returns-2 c = absurd (not-both _ (inside (c .before .before .before .before .before) .live) (not-true _ (c .before .before .if1 .taken)))
+unfolding sendOf
+returns-2 c = rw (c .before .raised2 .ensures) (search (cases, openings, gave))
+
+mul-at : tie.Need-mul-at
+mul-at c = omega (arith, inside (c .before .before .before))
+
+add-at : tie.Need-add-at
+add-at c = omega (arith, inside (c .before .before .before .before))
+
+mul-msg : tie.Need-mul-msg
+mul-msg c = omega (arith, inside (c .before .before .before .before))
+
+element-set-from-msg : tie.Need-element-set-from-msg
+element-set-from-msg c = omega (arith, inside (c .before .before .before .before))
+
+filled-requires : tie.Need-filled-requires
+filled-requires c κs = omega (arith, inside (c .before .before .before .before))
+
+mul-t13 : tie.Need-mul-t13
+mul-t13 c = omega (arith, inside (c .before .before .before .before .before))
+
+element-set-from-t : tie.Need-element-set-from-t
+element-set-from-t c = omega (arith, inside (c .before .before .before .before .before))
 
 returns-3 : tie.Need-returns-3
 unfolding sendOf
-returns-3 c = rw (c .before .raised3 .ensures) (search (cases, openings, gave))
-
-mul-at : tie.Need-mul-at
-mul-at c = omega (arith, inside (c .before .before .before .before .before))
-
-add-at : tie.Need-add-at
-add-at c = omega (arith, inside (c .before .before .before .before .before .before))
-
-mul-msg : tie.Need-mul-msg
-mul-msg c = omega (arith, inside (c .before .before .before .before .before .before))
-
-element-set-from-msg : tie.Need-element-set-from-msg
-element-set-from-msg c = omega (arith, inside (c .before .before .before .before .before .before))
-
-filled-requires : tie.Need-filled-requires
-filled-requires c κs = omega (arith, inside (c .before .before .before .before .before .before))
-
-mul-t13 : tie.Need-mul-t13
-mul-t13 c = omega (arith, inside (c .before .before .before .before .before .before .before))
-
-element-set-from-t : tie.Need-element-set-from-t
-element-set-from-t c = omega (arith, inside (c .before .before .before .before .before .before .before))
-
-returns-4 : tie.Need-returns-4
-unfolding sendOf
-returns-4 c = rw (c .before .filled .ensures) (search (cases, openings, gave))
+returns-3 c = rw (c .before .filled .ensures) (search (cases, openings, gave))
 
 pub send-spec : {M : Type 1} → statement M
 send-spec =
-    tie.close (tie.spec ·⁸ (search needs) · returns · mul-b · element-copy-out-b · (search needs) · returns-2 · (search needs) · returns-3 · mul-at · add-at · mul-msg · element-set-from-msg · filled-requires · mul-t13 · element-set-from-t · returns-4)
+    tie.close (tie.spec ·⁸ (search needs) · returns · mul-b · element-copy-out-b · (search needs) · returns-2 · mul-at · add-at · mul-msg · element-set-from-msg · filled-requires · mul-t13 · element-set-from-t · returns-3)

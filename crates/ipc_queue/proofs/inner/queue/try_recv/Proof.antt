@@ -1,9 +1,8 @@
 -- `ipc::inner::queue::try_recv` meets its contract. As for `send`. Assumes nothing.
 use mathlib.Core.Path.{_≡_, sym, _∙_}
 use native.Mathlib.Omega.{arith}
-use borrow.Author.Tests.{not-true}
 use Rattle.laws.proofs.Together.{_·_, _·⁸_}
-use Rattle.laws.proofs.Cases.{cases, not-both}
+use Rattle.laws.proofs.Cases.{cases}
 use Rattle.cap.specs.Rights.{receiveRight}
 use Rattle.ipc_rules.specs.Opening.{openingOf}
 use Rattle.ipc_rules.specs.Receive.{recvOf}
@@ -31,37 +30,34 @@ element-copy-out-b : tie.Need-element-copy-out-b
 element-copy-out-b c = omega (arith, inside c)
 
 returns-2 : tie.Need-returns-2
-returns-2 c = absurd (not-both _ (inside (c .before .before .before .before .before) .live) (not-true _ (c .before .before .if1 .taken)))
+unfolding recvOf
+returns-2 c = search (cases, openings, gave)
+
+mul-msg : tie.Need-mul-msg
+mul-msg c = omega (arith, inside (c .before .before .before))
+
+add-msg : tie.Need-add-msg
+add-msg c = omega (arith, inside (c .before .before .before .before))
+
+mul-msg-2 : tie.Need-mul-msg-2
+mul-msg-2 c = omega (arith, inside (c .before .before .before .before))
+
+element-copy-out-msg : tie.Need-element-copy-out-msg
+element-copy-out-msg c = omega (arith, inside (c .before .before .before .before))
+
+drained-requires : tie.Need-drained-requires
+drained-requires c κs = omega (arith, inside (c .before .before .before .before .before))
+
+mul-t27 : tie.Need-mul-t27
+mul-t27 c = omega (arith, inside (c .before .before .before .before .before .before))
+
+element-set-from-t : tie.Need-element-set-from-t
+element-set-from-t c = omega (arith, inside (c .before .before .before .before .before .before))
 
 returns-3 : tie.Need-returns-3
 unfolding recvOf
-returns-3 c = search (cases, openings, gave)
-
-mul-msg : tie.Need-mul-msg
-mul-msg c = omega (arith, inside (c .before .before .before .before .before))
-
-add-msg : tie.Need-add-msg
-add-msg c = omega (arith, inside (c .before .before .before .before .before .before))
-
-mul-msg-2 : tie.Need-mul-msg-2
-mul-msg-2 c = omega (arith, inside (c .before .before .before .before .before .before))
-
-element-copy-out-msg : tie.Need-element-copy-out-msg
-element-copy-out-msg c = omega (arith, inside (c .before .before .before .before .before .before))
-
-drained-requires : tie.Need-drained-requires
-drained-requires c κs = omega (arith, inside (c .before .before .before .before .before .before .before))
-
-mul-t31 : tie.Need-mul-t31
-mul-t31 c = omega (arith, inside (c .before .before .before .before .before .before .before .before))
-
-element-set-from-t : tie.Need-element-set-from-t
-element-set-from-t c = omega (arith, inside (c .before .before .before .before .before .before .before .before))
-
-returns-4 : tie.Need-returns-4
-unfolding recvOf
-returns-4 c = rw (c .drained .ensures) (search (cases, openings, gave))
+returns-3 c = rw (c .drained .ensures) (search (cases, openings, gave))
 
 pub try-recv-spec : {M : Type 1} → statement M
 try-recv-spec =
-    tie.close (tie.spec ·⁸ (search needs) · returns · mul-b · element-copy-out-b · (search needs) · returns-2 · returns-3 · mul-msg · add-msg · mul-msg-2 · element-copy-out-msg · drained-requires · mul-t31 · element-set-from-t · returns-4)
+    tie.close (tie.spec ·⁸ (search needs) · returns · mul-b · element-copy-out-b · returns-2 · mul-msg · add-msg · mul-msg-2 · element-copy-out-msg · drained-requires · mul-t27 · element-set-from-t · returns-3)
