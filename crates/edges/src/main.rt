@@ -1,4 +1,6 @@
-// Runs a script of edges on the compiled code.
+// Tries the calls at their edges, on the compiled code. The script on standard input is made of sentences, and most have a colon and then the
+// numbers of a call: which one, by document 01's operations or by `op`, and its operands. What is printed is the script with the answer in
+// the place of these numbers. What is expected, in the file stdout, is written from document 01.
 mod binding;
 mod broken;
 mod channels;

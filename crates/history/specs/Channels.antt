@@ -5,9 +5,8 @@ use Prim.Native.Nat.{ℕ}
 use lib.Dec.{eqb}
 use Rattle.cap.specs.declared.CapId.{CapId}
 use Rattle.cap.specs.declared.CapRights.{CapRights}
-use Rattle.cap.specs.declared.slot.Slot.{Slot}
 use Rattle.ipc_rules.specs.State.{mailboxLive}
-use Rattle.ipc_rules.specs.Opening.{openingOf, eitherOf, anyRightOf, holdOf, opened}
+use Rattle.ipc_rules.specs.Opening.{openingOf, anyRightOf, opened}
 use Rattle.ipc_rules.specs.declared.opening.Opening.{Opening}
 use Rattle.history.specs.World.{World}
 
@@ -20,15 +19,9 @@ pub record LivesIn (w : World) (n k : ℕ) : Type 0 where
 unfoldable pub leads : World → ℕ → Opening → Bool
 leads w n o = opened o false (λ k. eqb (w .tenant k) n)
 
--- the id c opens channel n: by the right `need`, by either right, as a revocation asks, and as a hold
+-- the id c opens channel n: by the right `need`, and as a revocation asks
 abbrev pub on : World → ℕ → CapId → CapRights → Bool
 on w n c need = leads w n (openingOf (w .table) c need)
 
-abbrev pub onEither : World → ℕ → CapId → Bool
-onEither w n c = leads w n (eitherOf (w .table) c)
-
 abbrev pub onAny : World → ℕ → CapId → Bool
 onAny w n c = leads w n (anyRightOf (w .table) c)
-
-abbrev pub onHold : World → ℕ → Slot → Bool
-onHold w n x = leads w n (holdOf (w .table) x)

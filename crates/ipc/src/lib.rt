@@ -110,7 +110,7 @@ pub fn queued(t: Table, cap: CapId) -> QueuedAnswer
     ipc_queue::inner::queued(t, cap)
 }
 
-// How many slots hold the send end.
+// How many holds on the send end are registered and not released.
 pub fn send_holders(t: Table, cap: CapId) -> HoldersAnswer
     ensures { λ r. ⌜ r ≡ holdersCall t cap ⌝ }
 {

@@ -1,2 +1,2 @@
-// Holds: how many slots hold the send end of a mailbox, counted up and down.
+// Holds on the send end of a mailbox, counted up and down.
 pub mod inner;

@@ -1,4 +1,4 @@
-// A mailbox as creation makes it, and its holds: how many slots hold its send end.
+// A mailbox as creation makes it, and its holds.
 ghost use mathlib.Core.Path.{_≡_};
 ghost use Rattle.ipc_rules.specs.State.{newMailbox};
 ghost use Rattle.ipc_rules.specs.Holds.{more as moreOf, fewer as fewerOf, reaps as reapsOf};

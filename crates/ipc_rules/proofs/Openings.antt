@@ -130,9 +130,6 @@ within t k s h =
 lives : (t : Table) (k : ℕ) → Sound t → mailboxLive t k ≡ true → LiveBelow t k
 lives t k s l = record { below = live-below t k s l; live = l }
 
-pub live-within : (t : Table) (k : ℕ) → Sound t → mailboxLive t k ≡ true → Within t k
-live-within t k s l = within t k s (lives t k s l)
-
 -- what opens in a sound table is a live mailbox
 pub opens-live : (t : Table) (c : CapId) (need : CapRights) (k : ℕ) → Sound t → openingOf t c need ≡ Opens k → mailboxLive t k ≡ true
 opens-live t c need k s e =

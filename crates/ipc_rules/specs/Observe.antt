@@ -12,7 +12,7 @@ use Rattle.ipc_rules.specs.declared.answers.RefusalsAnswer as counts
 unfoldable pub queuedOf : Table → CapId → queued.QueuedAnswer
 queuedOf t c = opened (eitherOf t c) queued.the-variants.BadCap (λ k. queued.the-variants.Queued (mailboxAt t k .ring .len))
 
--- how many slots hold the send end
+-- how many holds on the send end are registered and not released
 unfoldable pub holdersOf : Table → CapId → holders.HoldersAnswer
 holdersOf t c = opened (openingOf t c sendRight) holders.the-variants.BadCap (λ k. holders.the-variants.Holders (mailboxAt t k .«send_holders»))
 

@@ -1,5 +1,5 @@
--- A channel table's parts as when fresh, what stands at a place of it, and each record with one field anew. No other file writes a
--- message, a waiter, an endpoint, a mailbox, the sizes, the counters or a table out, so that a field more is a change here.
+-- A channel table's parts as when fresh, what stands at a place of it, and each record with one field anew. No other rule of
+-- the channel table writes a message, a waiter, an endpoint, a mailbox, the sizes, the counters or a table out, so that a field more is a change here.
 use mathlib.Core.Path.{_≡_}
 use mathlib.Core.Bool.{Bool, true, false}
 use mathlib.Core.List.{List}
@@ -7,7 +7,7 @@ use Prim.Native.Nat.{ℕ, _+_, _*_}
 use lib.ListN.{getD, set, length}
 use Rattle.cap.specs.Rights.{noRights}
 use Rattle.cap.specs.declared.CapRights.{CapRights}
-use Rattle.ring.specs.Ring.{emptyRing}
+use Rattle.ring.specs.Ring.{freshRing}
 use Rattle.ring.specs.declared.Ring.{Ring}
 use Rattle.ipc_rules.specs.declared.state.Message.{Message}
 use Rattle.ipc_rules.specs.declared.state.TaskId.{TaskId}
@@ -34,7 +34,7 @@ abbrev pub freshEndpoint : Endpoint
 freshEndpoint = record { live = false; generation = 0; rights = noRights; mailbox = 0 }
 
 abbrev pub freshMailbox : Mailbox
-freshMailbox = record { live = false; ring = emptyRing; waiter = nobody; «send_holders» = 0; ephemeral = false }
+freshMailbox = record { live = false; ring = freshRing; waiter = nobody; «send_holders» = 0; ephemeral = false }
 
 abbrev pub noRefusals : Refusals
 noRefusals = record { authority = 0; full = 0; state = 0 }
@@ -94,7 +94,7 @@ deadEndpoint e = record { live = false; generation = e .generation; rights = e .
 
 -- ---- a mailbox as creation makes it, and with one field anew
 abbrev pub newMailbox : Bool → Mailbox
-newMailbox x = record { live = true; ring = emptyRing; waiter = nobody; «send_holders» = 0; ephemeral = x }
+newMailbox x = record { live = true; ring = freshRing; waiter = nobody; «send_holders» = 0; ephemeral = x }
 
 abbrev pub withRing : Mailbox → Ring → Mailbox
 withRing b r = record { live = b .live; ring = r; waiter = b .waiter; «send_holders» = b .«send_holders»; ephemeral = b .ephemeral }

@@ -31,7 +31,7 @@ queueOf t k = contents (messageIn t k) (t .sizes .depth) (mailboxAt t k .ring)
 abbrev pub waiterOf : Table → ℕ → Waiter
 waiterOf t k = mailboxAt t k .waiter
 
--- how many slots hold its send end
+-- how many holds on its send end are registered and not released
 abbrev pub holdCount : Table → ℕ → ℕ
 holdCount t k = mailboxAt t k .«send_holders»
 

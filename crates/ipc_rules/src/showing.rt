@@ -37,7 +37,7 @@ fn push_waiter(s: Shown, w: Waiter) -> Shown
     push(s, 0)
 }
 
-// ---- what an none call shows
+// ---- what an accepted call shows
 fn waiter_shown(w: Waiter) -> Shown
     ensures { λ r. ⌜ r ≡ shown none (waiterValues w) ⌝ }
 {

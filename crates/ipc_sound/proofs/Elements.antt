@@ -8,7 +8,7 @@ use lib.Dec.{eqb, ltb}
 use Rattle.laws.proofs.Cases.{not-both}
 use Rattle.laws.proofs.Every.{and-left, and-right}
 use Rattle.ipc_rules.specs.State.{freshMessage, freshEndpoint, freshMailbox, nobody}
-use Rattle.ring.specs.Ring.{isEmptyRing}
+use Rattle.ring.specs.Ring.{isFreshRing}
 use Rattle.ring.proofs.Tests.{empty-of}
 use Rattle.ipc_sound.specs.SoundTest.{isFreshMessage, isFreshEndpoint, isNobody, isFreshMailbox, waiterTest}
 use Rattle.ipc_rules.specs.declared.state.Message.{Message}
@@ -44,7 +44,7 @@ is-nobody w h =
 pub fresh-mailbox : (b : Mailbox) → isFreshMailbox b ≡ true → b ≡ freshMailbox
 fresh-mailbox b h =
     let rest = isNobody (b .waiter) && eqb (b .«send_holders») 0 && not (b .ephemeral) in
-    let p = and-three (not (b .live)) (isEmptyRing (b .ring)) rest h in
+    let p = and-three (not (b .live)) (isFreshRing (b .ring)) rest h in
     let q = and-three (isNobody (b .waiter)) (eqb (b .«send_holders») 0) (not (b .ephemeral)) (p .2) in
     λ i. record {
       live = not-true (b .live) (p .0) i;

@@ -10,7 +10,7 @@ use Rattle.laws.specs.Pick.{pick}
 use Rattle.laws.specs.Every.{every}
 use Rattle.cap.specs.Rights.{sendRight, receiveRight}
 use Rattle.cap.specs.declared.CapRights.{CapRights}
-use Rattle.ring.specs.Ring.{isEmptyRing, ringTest}
+use Rattle.ring.specs.Ring.{isFreshRing, ringTest}
 use Rattle.ipc_rules.specs.State.{freshMessage, nextOf, endLives, boxLives, endIn, boxIn, boxLive, mailboxLive}
 use Rattle.ipc_rules.specs.Make.{inRange}
 use Rattle.ipc_rules.specs.declared.state.Endpoint.{Endpoint}
@@ -31,7 +31,7 @@ isNobody w = not (w .present) && eqb (w .task .slot) 0 && eqb (w .task .epoch) 0
 
 abbrev pub isFreshMailbox : Mailbox → Bool
 isFreshMailbox b =
-    not (boxLives b) && isEmptyRing (b .ring) && (isNobody (b .waiter) && eqb (b .«send_holders») 0 && not (b .ephemeral))
+    not (boxLives b) && isFreshRing (b .ring) && (isNobody (b .waiter) && eqb (b .«send_holders») 0 && not (b .ephemeral))
 
 -- ---- message places
 -- as when fresh, or place p of the ring of a live mailbox, of depth d

@@ -157,7 +157,7 @@ fn is_fresh_mailbox(b: Mailbox) -> bool
     ensures { λ r. ⌜ r ≡ isFreshMailbox b ⌝ }
 {
     let nobody = !b.waiter.present & (b.waiter.task.slot == 0) & (b.waiter.task.epoch == 0);
-    !b.is_live() & ring::is_empty(b.ring) & (nobody & (b.send_holders == 0) & !b.ephemeral)
+    !b.is_live() & ring::is_fresh(b.ring) & (nobody & (b.send_holders == 0) & !b.ephemeral)
 }
 
 fn mailbox_test(b: Mailbox, below: bool, ends: bool, d: usize) -> bool

@@ -5,7 +5,6 @@ ghost use Rattle.joined.specs.Answers.{spawnNumber, spawnValues, leaveNu
 use capslots::Table as Rows;
 use ipc_rules::showing::four_shown;
 use ipc_rules::state::Table as Channels;
-use ipc_rules::state::TaskId;
 use ipc_rules::state::Waiter;
 use laws::refusals;
 use shown::Shown;
@@ -49,11 +48,6 @@ pub struct Giving {
     pub channels: Channels,
     pub rows: Rows,
 }
-
-pub const NOBODY: Waiter = Waiter {
-    present: false,
-    task: TaskId { slot: 0, epoch: 0 },
-};
 
 impl SpawnAnswer {
     pub fn number(self) -> u8

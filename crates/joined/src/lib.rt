@@ -6,6 +6,7 @@ ghost use mathlib.Core.Path.{_≡_};
 ghost use Rattle.joined.specs.Border.{spawnCall, leaveCall, giveCall};
 use cap::CapId;
 use capslots::Table as Rows;
+use ipc_rules::state::NOBODY;
 use ipc_rules::state::Table as Channels;
 
 pub mod answers;
@@ -39,7 +40,7 @@ pub fn leave(channels: Channels, rows: Rows, row: usize) -> Leaving
     if !ipc_sound::sound(channels) {
         return Leaving {
             answer: LeaveAnswer::BadTable,
-            waiters: [answers::NOBODY; 4],
+            waiters: [NOBODY; 4],
             channels,
             rows,
         };

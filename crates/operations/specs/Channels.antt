@@ -35,32 +35,32 @@ use Rattle.operations.specs.declared.Tables.{Tables}
 use Rattle.operations.specs.declared.fresh.Fresh.{Fresh}
 
 -- ---- what a call's answer and table come to
-abbrev pub created : Tables → Creation → Done
-created t r = done (createNumber (r .answer)) (createValues (r .answer)) (withChannels t (r .table))
+abbrev pub afterCreate : Tables → Creation → Done
+afterCreate t r = done (createNumber (r .answer)) (createValues (r .answer)) (withChannels t (r .table))
 
-abbrev pub sent : Tables → Sending → Done
-sent t r = done (sendNumber (r .answer)) (sendValues (r .answer)) (withChannels t (r .table))
+abbrev pub afterSend : Tables → Sending → Done
+afterSend t r = done (sendNumber (r .answer)) (sendValues (r .answer)) (withChannels t (r .table))
 
-abbrev pub received : Tables → Receiving → Done
-received t r = done (recvNumber (r .answer)) (recvValues (r .answer)) (withChannels t (r .table))
+abbrev pub afterReceive : Tables → Receiving → Done
+afterReceive t r = done (recvNumber (r .answer)) (recvValues (r .answer)) (withChannels t (r .table))
 
-abbrev pub parked : Tables → Parking → Done
-parked t r = done (parkNumber (r .answer)) (parkValues (r .answer)) (withChannels t (r .table))
+abbrev pub afterPark : Tables → Parking → Done
+afterPark t r = done (parkNumber (r .answer)) (parkValues (r .answer)) (withChannels t (r .table))
 
-abbrev pub queued : Tables → QueuedAnswer → Done
-queued t a = done (queuedNumber a) (queuedValues a) t
+abbrev pub afterQueued : Tables → QueuedAnswer → Done
+afterQueued t a = done (queuedNumber a) (queuedValues a) t
 
-abbrev pub revoked : Tables → Revoking → Done
-revoked t r = done (revokeNumber (r .answer)) (revokeValues (r .answer)) (withChannels t (r .table))
+abbrev pub afterRevoke : Tables → Revoking → Done
+afterRevoke t r = done (revokeNumber (r .answer)) (revokeValues (r .answer)) (withChannels t (r .table))
 
-abbrev pub holders : Tables → HoldersAnswer → Done
-holders t a = done (holdersNumber a) (holdersValues a) t
+abbrev pub afterHolders : Tables → HoldersAnswer → Done
+afterHolders t a = done (holdersNumber a) (holdersValues a) t
 
-abbrev pub cleared : Tables → Clearing → Done
-cleared t r = done (clearNumber (r .answer)) (clearValues (r .answer)) (withChannels t (r .table))
+abbrev pub afterClear : Tables → Clearing → Done
+afterClear t r = done (clearNumber (r .answer)) (clearValues (r .answer)) (withChannels t (r .table))
 
-abbrev pub noted : Tables → Noting → Done
-noted t r = done (noteNumber (r .answer)) (noteValues (r .answer)) (withChannels t (r .table))
+abbrev pub afterNote : Tables → Noting → Done
+afterNote t r = done (noteNumber (r .answer)) (noteValues (r .answer)) (withChannels t (r .table))
 
 -- every table fresh, the channel table of the sizes given
 abbrev pub allFresh : ℕ → ℕ → ℕ → Tables
@@ -80,43 +80,43 @@ newDone log t =
 
 -- 1, create (ephemeral where the flag is not 0)
 unfoldable pub createDone : List ℕ → Tables → Done
-createDone log t = created t (createOf (t .channels) (not (eqb (byteAt log 3) 0)))
+createDone log t = afterCreate t (createOf (t .channels) (not (eqb (byteAt log 3) 0)))
 
 -- 2, send (id, tag, a, b)
 unfoldable pub sendDone : List ℕ → Tables → Done
-sendDone log t = sent t (sendOf (t .channels) (idAt log 3) (messageAt log 7))
+sendDone log t = afterSend t (sendOf (t .channels) (idAt log 3) (messageAt log 7))
 
 -- 3, receive (id)
 unfoldable pub receiveDone : List ℕ → Tables → Done
-receiveDone log t = received t (recvOf (t .channels) (idAt log 3))
+receiveDone log t = afterReceive t (recvOf (t .channels) (idAt log 3))
 
 -- 4, park (id, task)
 unfoldable pub parkDone : List ℕ → Tables → Done
-parkDone log t = parked t (parkOf (t .channels) (idAt log 3) (taskAt log 7))
+parkDone log t = afterPark t (parkOf (t .channels) (idAt log 3) (taskAt log 7))
 
 -- 5, queued (id)
 unfoldable pub queuedDone : List ℕ → Tables → Done
-queuedDone log t = queued t (queuedOf (t .channels) (idAt log 3))
+queuedDone log t = afterQueued t (queuedOf (t .channels) (idAt log 3))
 
 -- 6, revoke (id)
 unfoldable pub revokeDone : List ℕ → Tables → Done
-revokeDone log t = revoked t (revokeOf (t .channels) (idAt log 3))
+revokeDone log t = afterRevoke t (revokeOf (t .channels) (idAt log 3))
 
 -- 9, holders (id)
 unfoldable pub holdersDone : List ℕ → Tables → Done
-holdersDone log t = holders t (holdersOf (t .channels) (idAt log 3))
+holdersDone log t = afterHolders t (holdersOf (t .channels) (idAt log 3))
 
 -- 10, clear waiter (task)
 unfoldable pub clearDone : List ℕ → Tables → Done
-clearDone log t = cleared t (clearOf (t .channels) (taskAt log 3))
+clearDone log t = afterClear t (clearOf (t .channels) (taskAt log 3))
 
 -- 11, note authority
 unfoldable pub noteAuthorityDone : Tables → Done
-noteAuthorityDone t = noted t (noteAuthorityOf (t .channels))
+noteAuthorityDone t = afterNote t (noteAuthorityOf (t .channels))
 
 -- 12, note state
 unfoldable pub noteStateDone : Tables → Done
-noteStateDone t = noted t (noteStateOf (t .channels))
+noteStateDone t = afterNote t (noteStateOf (t .channels))
 
 -- 27, counts
 unfoldable pub countsDone : Tables → Done

@@ -10,17 +10,17 @@ use Rattle.operations.specs.Done.{Done, done, withChannels}
 use Rattle.operations.specs.declared.Tables.{Tables}
 
 -- ---- what a call's answer and table come to
-abbrev pub registered : Tables → Registering → Done
-registered t r = done (registerNumber (r .answer)) (registerValues (r .answer)) (withChannels t (r .table))
+abbrev pub afterRegister : Tables → Registering → Done
+afterRegister t r = done (registerNumber (r .answer)) (registerValues (r .answer)) (withChannels t (r .table))
 
-abbrev pub released : Tables → Releasing → Done
-released t r = done (releaseNumber (r .answer)) (releaseValues (r .answer) (r .waiters)) (withChannels t (r .table))
+abbrev pub afterRelease : Tables → Releasing → Done
+afterRelease t r = done (releaseNumber (r .answer)) (releaseValues (r .answer) (r .waiters)) (withChannels t (r .table))
 
 -- ---- the operations
 -- 7, register (list)
 unfoldable pub registerDone : List ℕ → Tables → Done
-registerDone log t = registered t (registerOf (t .channels) (listWords log 3))
+registerDone log t = afterRegister t (registerOf (t .channels) (listWords log 3))
 
 -- 8, release (list)
 unfoldable pub releaseDone : List ℕ → Tables → Done
-releaseDone log t = released t (releaseOf (t .channels) (listSlots log 3))
+releaseDone log t = afterRelease t (releaseOf (t .channels) (listSlots log 3))

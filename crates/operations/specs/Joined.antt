@@ -13,24 +13,24 @@ use Rattle.operations.specs.Operands.{idAt}
 use Rattle.operations.specs.declared.Tables.{Tables}
 
 -- ---- what a step's answer and tables come to
-abbrev pub spawned : Tables → Spawning → Done
-spawned t r = done (spawnNumber (r .answer)) (spawnValues (r .answer)) (withBoth t (r .channels) (r .rows))
+abbrev pub afterSpawn : Tables → Spawning → Done
+afterSpawn t r = done (spawnNumber (r .answer)) (spawnValues (r .answer)) (withBoth t (r .channels) (r .rows))
 
-abbrev pub left : Tables → Leaving → Done
-left t r = done (leaveNumber (r .answer)) (leaveValues (r .answer) (r .waiters)) (withBoth t (r .channels) (r .rows))
+abbrev pub afterLeave : Tables → Leaving → Done
+afterLeave t r = done (leaveNumber (r .answer)) (leaveValues (r .answer) (r .waiters)) (withBoth t (r .channels) (r .rows))
 
-abbrev pub given : Tables → Giving → Done
-given t r = done (giveNumber (r .answer)) (giveValues (r .answer)) (withBoth t (r .channels) (r .rows))
+abbrev pub afterGive : Tables → Giving → Done
+afterGive t r = done (giveNumber (r .answer)) (giveValues (r .answer)) (withBoth t (r .channels) (r .rows))
 
 -- ---- the operations
 -- 24, spawn (row, list)
 unfoldable pub spawnDone : List ℕ → Tables → Done
-spawnDone log t = spawned t (spawnOf (t .channels) (t .rows) (byteAt log 3) (listWords log 4))
+spawnDone log t = afterSpawn t (spawnOf (t .channels) (t .rows) (byteAt log 3) (listWords log 4))
 
 -- 25, leave (row)
 unfoldable pub leaveDone : List ℕ → Tables → Done
-leaveDone log t = left t (leaveOf (t .channels) (t .rows) (byteAt log 3))
+leaveDone log t = afterLeave t (leaveOf (t .channels) (t .rows) (byteAt log 3))
 
 -- 26, give (row, slot, id)
 unfoldable pub giveDone : List ℕ → Tables → Done
-giveDone log t = given t (giveOf (t .channels) (t .rows) (byteAt log 3) (byteAt log 4) (idAt log 5))
+giveDone log t = afterGive t (giveOf (t .channels) (t .rows) (byteAt log 3) (byteAt log 4) (idAt log 5))

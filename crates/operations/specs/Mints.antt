@@ -15,36 +15,36 @@ use Rattle.operations.specs.Operands.{idAt}
 use Rattle.operations.specs.declared.Tables.{Tables}
 
 -- ---- what a call's answer and table come to
-abbrev pub taskMinted : Tables → TaskMinted → Done
-taskMinted t r = done (mintNumber (r .answer)) (mintValues (r .answer)) (withTasks t (r .table))
+abbrev pub afterTaskMint : Tables → TaskMinted → Done
+afterTaskMint t r = done (mintNumber (r .answer)) (mintValues (r .answer)) (withTasks t (r .table))
 
-abbrev pub irqMinted : Tables → IrqMinted → Done
-irqMinted t r = done (mintNumber (r .answer)) (mintValues (r .answer)) (withIrqs t (r .table))
+abbrev pub afterIrqMint : Tables → IrqMinted → Done
+afterIrqMint t r = done (mintNumber (r .answer)) (mintValues (r .answer)) (withIrqs t (r .table))
 
-abbrev pub named : Tables → LookupAnswer → Done
-named t a = done (lookupNumber a) (lookupValues a) t
+abbrev pub afterLookup : Tables → LookupAnswer → Done
+afterLookup t a = done (lookupNumber a) (lookupValues a) t
 
 -- nothing refuses the end of a task
-abbrev pub ended : Tables → Revoked → Done
-ended t r = done no.none (tasks.revokeValues (r .count)) (withTasks t (r .table))
+abbrev pub afterTaskEnd : Tables → Revoked → Done
+afterTaskEnd t r = done no.none (tasks.revokeValues (r .count)) (withTasks t (r .table))
 
 -- ---- the operations
 -- 19, task mint (task)
 unfoldable pub taskMintDone : List ℕ → Tables → Done
-taskMintDone log t = taskMinted t (tasks.mintOf (t .tasks) (littleAt log 3 4))
+taskMintDone log t = afterTaskMint t (tasks.mintOf (t .tasks) (littleAt log 3 4))
 
 -- 20, task lookup (id)
 unfoldable pub taskLookupDone : List ℕ → Tables → Done
-taskLookupDone log t = named t (tasks.lookupOf (t .tasks) (idAt log 3))
+taskLookupDone log t = afterLookup t (tasks.lookupOf (t .tasks) (idAt log 3))
 
 -- 21, task end (task)
 unfoldable pub taskEndDone : List ℕ → Tables → Done
-taskEndDone log t = ended t (tasks.revokeOf (t .tasks) (littleAt log 3 4))
+taskEndDone log t = afterTaskEnd t (tasks.revokeOf (t .tasks) (littleAt log 3 4))
 
 -- 22, IRQ mint (cookie)
 unfoldable pub irqMintDone : List ℕ → Tables → Done
-irqMintDone log t = irqMinted t (irqs.mintOf (t .irqs) (littleAt log 3 4))
+irqMintDone log t = afterIrqMint t (irqs.mintOf (t .irqs) (littleAt log 3 4))
 
 -- 23, IRQ lookup (id)
 unfoldable pub irqLookupDone : List ℕ → Tables → Done
-irqLookupDone log t = named t (irqs.lookupOf (t .irqs) (idAt log 3))
+irqLookupDone log t = afterLookup t (irqs.lookupOf (t .irqs) (idAt log 3))

@@ -19,46 +19,46 @@ use Rattle.operations.specs.Operands.{idAt}
 use Rattle.operations.specs.declared.Tables.{Tables}
 
 -- ---- what a call's answer and table come to
-abbrev pub got : Tables → SlotAnswer → Done
-got t a = done (slotNumber a) (slotValues a) t
+abbrev pub afterGet : Tables → SlotAnswer → Done
+afterGet t a = done (slotNumber a) (slotValues a) t
 
-abbrev pub seeded : Tables → Seeded → Done
-seeded t r = done (seedNumber (r .answer)) (seedValues (r .answer)) (withRows t (r .table))
+abbrev pub afterSeed : Tables → Seeded → Done
+afterSeed t r = done (seedNumber (r .answer)) (seedValues (r .answer)) (withRows t (r .table))
 
-abbrev pub installed : Tables → Installed → Done
-installed t r = done (installNumber (r .answer)) (installValues (r .answer)) (withRows t (r .table))
+abbrev pub afterInstall : Tables → Installed → Done
+afterInstall t r = done (installNumber (r .answer)) (installValues (r .answer)) (withRows t (r .table))
 
-abbrev pub transferred : Tables → Transferred → Done
-transferred t r = done (transferNumber (r .answer)) (transferValues (r .answer)) (withRows t (r .table))
+abbrev pub afterTransfer : Tables → Transferred → Done
+afterTransfer t r = done (transferNumber (r .answer)) (transferValues (r .answer)) (withRows t (r .table))
 
 -- nothing refuses a drain, nor the question whether a row holds an id
-abbrev pub drained : Tables → Drained → Done
-drained t r = done no.none (drainValues (r .slots)) (withRows t (r .table))
+abbrev pub afterDrain : Tables → Drained → Done
+afterDrain t r = done no.none (drainValues (r .slots)) (withRows t (r .table))
 
-abbrev pub told : Tables → Bool → Done
-told t b = done no.none (holdsValues b) t
+abbrev pub afterHolds : Tables → Bool → Done
+afterHolds t b = done no.none (holdsValues b) t
 
 -- ---- the operations
 -- 13, get (row, slot)
 unfoldable pub getDone : List ℕ → Tables → Done
-getDone log t = got t (getOf (t .rows) (byteAt log 3) (byteAt log 4))
+getDone log t = afterGet t (getOf (t .rows) (byteAt log 3) (byteAt log 4))
 
 -- 14, holds (row, id)
 unfoldable pub holdsDone : List ℕ → Tables → Done
-holdsDone log t = told t (holdsOf (t .rows) (byteAt log 3) (idAt log 4))
+holdsDone log t = afterHolds t (holdsOf (t .rows) (byteAt log 3) (idAt log 4))
 
 -- 15, seed (row, list)
 unfoldable pub seedDone : List ℕ → Tables → Done
-seedDone log t = seeded t (seedOf (t .rows) (byteAt log 3) (listWords log 4))
+seedDone log t = afterSeed t (seedOf (t .rows) (byteAt log 3) (listWords log 4))
 
 -- 16, install (row, slot, id)
 unfoldable pub installDone : List ℕ → Tables → Done
-installDone log t = installed t (installOf (t .rows) (byteAt log 3) (byteAt log 4) (idAt log 5))
+installDone log t = afterInstall t (installOf (t .rows) (byteAt log 3) (byteAt log 4) (idAt log 5))
 
 -- 17, transfer (from row, from slot, to row, to slot)
 unfoldable pub transferDone : List ℕ → Tables → Done
-transferDone log t = transferred t (transferOf (t .rows) (byteAt log 3) (byteAt log 4) (byteAt log 5) (byteAt log 6))
+transferDone log t = afterTransfer t (transferOf (t .rows) (byteAt log 3) (byteAt log 4) (byteAt log 5) (byteAt log 6))
 
 -- 18, drain (row)
 unfoldable pub drainDone : List ℕ → Tables → Done
-drainDone log t = drained t (drainOf (t .rows) (byteAt log 3))
+drainDone log t = afterDrain t (drainOf (t .rows) (byteAt log 3))

@@ -23,7 +23,7 @@ use Rattle.operations.specs.declared.Tables.{Tables}
 use Rattle.oplog.specs.Step.{stepNumber, writing, stepOf, stepOut}
 use Rattle.oplog.specs.Run.{Ended, runFrom, runOf}
 use Rattle.oplog.specs.Text.{most, textFrom, textAt, startOf, replayText}
-use Rattle.oplog.specs.Replay.{placeFits, Filled, filled, lastLine, lastOf, placeOf, endingOf, ranOf, replayOf, Placed, partOf, Prints, last, next}
+use Rattle.oplog.specs.Replay.{placeFits, Filled, filled, lastLine, lastOf, logPlaceOf, endingOf, ranOf, replayOf, Placed, partOf, Prints, last, next}
 use Rattle.oplog.specs.declared.StepAnswer.the-variants.{Took, NoRoom}
 use Rattle.oplog.specs.declared.replay.Place.{Place}
 use Rattle.oplog.proofs.Runs.{used, step-kept}
@@ -152,7 +152,7 @@ module _ (log : List ℕ) (p : Place) (h : Placed log p) (out : List ℕ) where
         rw o (enough (length rest) (length log) rest (p .offset) (p .done) (p .tables) (omega arith) (omega arith) ∙ sym (short-text p)) in
         rw (← x) (run-prints rest (p .offset) (length rest) rest (p .done) out 0 (p .tables) (omega arith) (omega arith) (rw z refl) (omega arith))
 
-    reaches : Placed log (placeOf (p .offset) (e .answer))
+    reaches : Placed log (logPlaceOf (p .offset) (e .answer))
     reaches =
         let n = length-drop (p .offset) log in
         let i = h .inside in
@@ -161,17 +161,17 @@ module _ (log : List ℕ) (p : Place) (h : Placed log p) (out : List ℕ) where
         record { inside = omega (arith, c .0); counted = omega (arith, c .0, c .1); sound = run-kept (length rest) (length rest) rest (p .done) out 0 (p .tables) (h .sound) }
 
     -- what is left at that place
-    left-text : textAt log (placeOf (p .offset) (e .answer)) ≡ leftOf rest (p .offset) e
+    left-text : textAt log (logPlaceOf (p .offset) (e .answer)) ≡ leftOf rest (p .offset) e
     left-text =
         let n = length-drop (p .offset) log in
         let m = length-drop (p .offset + e .answer .offset) log in
-        short-text (placeOf (p .offset) (e .answer))
+        short-text (logPlaceOf (p .offset) (e .answer))
         ∙ enough (length log) (length rest) (drop (p .offset + e .answer .offset) log) (p .offset + e .answer .offset) (e .answer .done) (e .answer .tables) (omega arith) (omega arith)
         ∙ ap (λ (r : List ℕ). textFrom (length rest) r (p .offset + e .answer .offset) (e .answer .done) (e .answer .tables)) (sym (drop-drop (e .answer .offset) (p .offset) log))
         ∙ ran .resumes
 
     -- no room for a line
-    crowded : Continues (filled NoRoom (e .answer .at) (placeOf (p .offset) (e .answer)) (e .buffer))
+    crowded : Continues (filled NoRoom (e .answer .at) (logPlaceOf (p .offset) (e .answer)) (e .buffer))
     crowded =
         record {
           took = λ z. absurd (let y = ap stepNumber z in omega arith);
@@ -180,15 +180,15 @@ module _ (log : List ℕ) (p : Place) (h : Placed log p) (out : List ℕ) where
         }
 
     -- the last line
-    closed : (stepNumber (e .answer .answer) ≡ no.noRoom → ⊥) → Continues (lastOf (e .buffer) (e .answer .at) (stepNumber (e .answer .answer)) (p .offset + e .answer .offset) (placeOf (p .offset) (e .answer)))
+    closed : (stepNumber (e .answer .answer) ≡ no.noRoom → ⊥) → Continues (lastOf (e .buffer) (e .answer .at) (stepNumber (e .answer .answer)) (p .offset + e .answer .offset) (logPlaceOf (p .offset) (e .answer)))
     unfolding leftOf pick
     closed n =
-        let c = closes (e .buffer) (e .answer .at) (stepNumber (e .answer .answer)) (p .offset + e .answer .offset) (placeOf (p .offset) (e .answer)) in
+        let c = closes (e .buffer) (e .answer .at) (stepNumber (e .answer .answer)) (p .offset + e .answer .offset) (logPlaceOf (p .offset) (e .answer)) in
         let x : take (e .answer .at) (e .buffer) ++ lastLine (stepNumber (e .answer .answer)) (p .offset + e .answer .offset) (e .answer .done) ≡ textAt log p =
         rw (ne-eqb (stepNumber (e .answer .answer)) no.noRoom n) at (ran .says) in
         record {
           took = λ z. c .took z ∙ x;
-          left = λ z. rw (c .place) (ap (λ (y : List ℕ). y ++ textAt log (placeOf (p .offset) (e .answer))) (c .left z) ∙ ap (λ (y : List ℕ). take (e .answer .at) (e .buffer) ++ y) left-text ∙ ran .says);
+          left = λ z. rw (c .place) (ap (λ (y : List ℕ). y ++ textAt log (logPlaceOf (p .offset) (e .answer))) (c .left z) ∙ ap (λ (y : List ℕ). take (e .answer .at) (e .buffer) ++ y) left-text ∙ ran .says);
           again = rw (c .place) reaches;
         }
 

@@ -22,7 +22,7 @@ use Rattle.logread.specs.declared.Read as read
 use Rattle.oplog.specs.Step.{stepNumber, reading, writing, textOf, refusedStep, stepOf, stepOut}
 use Rattle.oplog.specs.Run.{Ended, runFrom}
 use Rattle.oplog.specs.Text.{most}
-use Rattle.oplog.specs.Replay.{placeFits, Filled, filled, lastLine, lastOf, placeOf, endingOf, ranOf, replayOf}
+use Rattle.oplog.specs.Replay.{placeFits, Filled, filled, lastLine, lastOf, logPlaceOf, endingOf, ranOf, replayOf}
 use Rattle.oplog.specs.declared.StepAnswer.the-variants.{Took, Short, BadMark, BadOp, BadOperand, NoRoom}
 use Rattle.oplog.specs.declared.Stepped.{Stepped}
 use Rattle.oplog.specs.declared.replay.Place.{Place}
@@ -137,13 +137,13 @@ module _ (log out : List ℕ) (p : Place) (h : 315 ≤ length out) where
   forward : Forward out e
   forward = run-forward (length (drop (p .offset) log)) (drop (p .offset) log) (p .done) out (p .tables) (omega arith) h
 
-  closes-on : (n : ℕ) → e .answer .offset ≡ n → Onward (lastOf (e .buffer) (e .answer .at) (stepNumber (e .answer .answer)) (p .offset + e .answer .offset) (placeOf (p .offset) (e .answer)))
+  closes-on : (n : ℕ) → e .answer .offset ≡ n → Onward (lastOf (e .buffer) (e .answer .at) (stepNumber (e .answer .answer)) (p .offset + e .answer .offset) (logPlaceOf (p .offset) (e .answer)))
   closes-on zero z a =
       let u = forward .unmoved z in
       let at-start : e .answer .at ≡ 0 = u .0 in
       let long : length (e .buffer) ≡ length out = u .1 in
-      absurd (last-room (e .buffer) (e .answer .at) _ _ (placeOf (p .offset) (e .answer)) (omega arith) a)
-  closes-on (suc n) z a = rw (closes (e .buffer) (e .answer .at) (stepNumber (e .answer .answer)) (p .offset + e .answer .offset) (placeOf (p .offset) (e .answer)) .place) (omega arith)
+      absurd (last-room (e .buffer) (e .answer .at) _ _ (logPlaceOf (p .offset) (e .answer)) (omega arith) a)
+  closes-on (suc n) z a = rw (closes (e .buffer) (e .answer .at) (stepNumber (e .answer .answer)) (p .offset + e .answer .offset) (logPlaceOf (p .offset) (e .answer)) .place) (omega arith)
 
   pub moves-on : Onward (replayOf log out p)
   unfolding replayOf endingOf

@@ -21,7 +21,7 @@ use Rattle.operations.specs.declared.Tables.{Tables}
 use Rattle.oplog.specs.Step.{stepNumber, writing}
 use Rattle.oplog.specs.Run.{Ended, runFrom, runOf}
 use Rattle.oplog.specs.Text.{most}
-use Rattle.oplog.specs.Replay.{placeFits, lastLine, lastOf, placeOf, endingOf, ranOf, replayOf}
+use Rattle.oplog.specs.Replay.{placeFits, lastLine, lastOf, logPlaceOf, endingOf, ranOf, replayOf}
 use Rattle.oplog.specs.declared.StepAnswer.the-variants.{Took, NoRoom, BadTable}
 use Rattle.oplog.specs.declared.Ran.{Ran}
 use Rattle.oplog.specs.declared.replay.Place.{Place}
@@ -108,12 +108,12 @@ module _ (log out : List ℕ) (p : Place) (q : Bool) (es : q ≡ soundTest (p .t
       ending = rw (fits, le-ltb most (length log) l) refl
 
       pub no-room : stepNumber (r .answer) ≡ no.noRoom
-          → (_≡_ {A = Part} (record { answer = NoRoom; at = r .at; place = placeOf (p .offset) r }) (replayOf log out p .part)) × (left ≡ replayOf log out p .buffer)
+          → (_≡_ {A = Part} (record { answer = NoRoom; at = r .at; place = logPlaceOf (p .offset) r }) (replayOf log out p .part)) × (left ≡ replayOf log out p .buffer)
       unfolding endingOf pick
       no-room n = rw (← ending) (rw (← how .0, ← how .1, eq-eqb (stepNumber (r .answer)) no.noRoom n) (refl, refl))
 
-      pub ends : {f : Part} {o : List ℕ} → (stepNumber (r .answer) ≡ no.noRoom → ⊥) → f ≡ lastOf left (r .at) (stepNumber (r .answer)) (p .offset + r .offset) (placeOf (p .offset) r) .part
-          → o ≡ lastOf left (r .at) (stepNumber (r .answer)) (p .offset + r .offset) (placeOf (p .offset) r) .buffer
+      pub ends : {f : Part} {o : List ℕ} → (stepNumber (r .answer) ≡ no.noRoom → ⊥) → f ≡ lastOf left (r .at) (stepNumber (r .answer)) (p .offset + r .offset) (logPlaceOf (p .offset) r) .part
+          → o ≡ lastOf left (r .at) (stepNumber (r .answer)) (p .offset + r .offset) (logPlaceOf (p .offset) r) .buffer
           → (f ≡ replayOf log out p .part) × (o ≡ replayOf log out p .buffer)
       unfolding endingOf pick
       ends n ef eo = rw (← ending) (rw (← how .0, ← how .1, ne-eqb (stepNumber (r .answer)) no.noRoom n) (ef, eo))

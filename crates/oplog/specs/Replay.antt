@@ -43,15 +43,15 @@ lastOf out at number offset p =
     filled Took next p (written out at (lastLine number offset (p .done))))
 
 -- the place where a run ended that began at offset `from`
-abbrev pub placeOf : ℕ → Ran → Place
-placeOf from r = record { offset = from + r .offset; done = r .done; tables = r .tables }
+abbrev pub logPlaceOf : ℕ → Ran → Place
+logPlaceOf from r = record { offset = from + r .offset; done = r .done; tables = r .tables }
 
 -- what follows from how a run ended: no room for the next line, or the last line
 unfoldable pub endingOf : ℕ → Ended → Filled
 endingOf from r =
     pick (eqb (stepNumber (r .answer .answer)) no.noRoom)
-    (filled NoRoom (r .answer .at) (placeOf from (r .answer)) (r .buffer))
-    (lastOf (r .buffer) (r .answer .at) (stepNumber (r .answer .answer)) (from + r .answer .offset) (placeOf from (r .answer)))
+    (filled NoRoom (r .answer .at) (logPlaceOf from (r .answer)) (r .buffer))
+    (lastOf (r .buffer) (r .answer .at) (stepNumber (r .answer .answer)) (from + r .answer .offset) (logPlaceOf from (r .answer)))
 
 abbrev pub ranOf : List ℕ → List ℕ → Place → Ended
 ranOf log out p = runOf (drop (p .offset) log) (p .done) out (p .tables)

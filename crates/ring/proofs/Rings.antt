@@ -7,12 +7,12 @@ use native.Mathlib.Nat.{mod-lt, mod-eq-of-lt, mod-add-mod, add-assoc, eq-or-lt-o
 use native.Mathlib.Numerals.{add-one}
 use native.Mathlib.Omega.{arith}
 use lib.ListN.{length}
-use Rattle.ring.specs.Ring.{IsRing, emptyRing, putIn, takenOut, ringFrom, contents}
+use Rattle.ring.specs.Ring.{IsRing, freshRing, putIn, takenOut, ringFrom, contents}
 use Rattle.ring.specs.declared.Ring.{Ring}
 use Rattle.ring.proofs.Places.{apart, ring-length, ring-same, ring-more}
 
 -- ---- still a ring
-pub empty-is : (d : ℕ) → 1 ≤ d → IsRing d emptyRing
+pub empty-is : (d : ℕ) → 1 ≤ d → IsRing d freshRing
 empty-is d deep = let l : 0 < d = omega arith in record { fits = omega arith; head = l; tail = l; apart = sym (mod-eq-of-lt l) }
 
 -- a ring that is not full has room

@@ -7,8 +7,8 @@ use Prim.Native.Nat.{ℕ, zero, suc, _+_, _-_, _%_, _≤_, _<_}
 use lib.Dec.{eqb, ltb, leb}
 use Rattle.ring.specs.declared.Ring.{Ring}
 
-abbrev pub emptyRing : Ring
-emptyRing = record { head = 0; tail = 0; len = 0 }
+abbrev pub freshRing : Ring
+freshRing = record { head = 0; tail = 0; len = 0 }
 
 -- one place more is taken, the one at the head
 abbrev pub putIn : ℕ → Ring → Ring
@@ -28,8 +28,8 @@ pub record IsRing (d : ℕ) (r : Ring) : Type 0 where
 abbrev pub ringTest : ℕ → Ring → Bool
 ringTest d r = leb (r .len) d && ltb (r .head) d && ltb (r .tail) d && eqb (r .head) ((r .tail + r .len) % d)
 
-abbrev pub isEmptyRing : Ring → Bool
-isEmptyRing r = eqb (r .head) 0 && eqb (r .tail) 0 && eqb (r .len) 0
+abbrev pub isFreshRing : Ring → Bool
+isFreshRing r = eqb (r .head) 0 && eqb (r .tail) 0 && eqb (r .len) 0
 
 -- ---- what stands in a ring, by what stands at each place
 -- n places of a ring of depth d, from place `at` on

@@ -3,7 +3,7 @@
 pub mod inner;
 
 ghost use mathlib.Core.Path.{_≡_};
-ghost use Rattle.ring.specs.Ring.{isEmptyRing};
+ghost use Rattle.ring.specs.Ring.{isFreshRing};
 
 pub struct Ring {
     pub head: usize,
@@ -12,8 +12,8 @@ pub struct Ring {
 }
 
 // Whether a ring is as when fresh.
-pub fn is_empty(r: Ring) -> bool
-    ensures { λ out. ⌜ out ≡ isEmptyRing r ⌝ }
+pub fn is_fresh(r: Ring) -> bool
+    ensures { λ out. ⌜ out ≡ isFreshRing r ⌝ }
 {
     (r.head == 0) & (r.tail == 0) & (r.len == 0)
 }

@@ -26,7 +26,7 @@ pub fn queued(t: Table, cap: CapId) -> QueuedAnswer
     QueuedAnswer::Queued(b.ring.len)
 }
 
-// How many slots hold the send end.
+// How many holds on the send end are registered and not released.
 pub fn send_holders(t: Table, cap: CapId) -> HoldersAnswer
     requires { ⌜ Sound t ⌝ }
     ensures { λ r. ⌜ r ≡ holdersOf t cap ⌝ }

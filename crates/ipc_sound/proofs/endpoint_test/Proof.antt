@@ -1,4 +1,4 @@
--- `sound::endpoint_test` computes `endpointTest`. Assumes nothing.
+-- `ipc_sound::endpoint_test` computes `endpointTest`. Assumes nothing.
 use mathlib.Core.Path.{refl, sym, _∙_}
 use borrow.Author.Tests.{not-true}
 use Rattle.laws.proofs.Together.{_·_, _·²_}

@@ -1,4 +1,4 @@
--- `sound::last_ends`: the invariant is that the last ends below `i` are remembered. The measure is what is left. Assumes nothing.
+-- `ipc_sound::last_ends`: the invariant is that the last ends below `i` are remembered. The measure is what is left. Assumes nothing.
 use Prim.Native.Nat.{_≤_, _-_}
 use native.Mathlib.Omega.{arith}
 use Rattle.laws.proofs.Together.{_·_, _·⁶_}

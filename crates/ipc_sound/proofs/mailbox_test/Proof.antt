@@ -1,4 +1,4 @@
--- `sound::mailbox_test` computes `mailboxTest`. Assumes nothing.
+-- `ipc_sound::mailbox_test` computes `mailboxTest`. Assumes nothing.
 use mathlib.Core.Path.{sym, _∙_}
 use borrow.Author.Tests.{not-true}
 use Rattle.laws.proofs.Together.{_·_, _·²_}

@@ -1,4 +1,4 @@
--- `sound::noted`: where the endpoint is an end, its place is set. Assumes nothing.
+-- `ipc_sound::noted`: where the endpoint is an end, its place is set. Assumes nothing.
 use borrow.Author.Needs.{needs}
 use native.Mathlib.Omega.{arith}
 use mathlib.Core.Path.{_≡_}

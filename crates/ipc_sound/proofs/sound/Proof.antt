@@ -1,4 +1,4 @@
--- `sound::sound` computes `soundTest`, and what passes it is sound. Assumes nothing.
+-- `ipc_sound::sound` computes `soundTest`, and what passes it is sound. Assumes nothing.
 use mathlib.Core.Path.{_≡_, sym, _∙_}
 use mathlib.Core.Bool.{Bool, true, false}
 use Prim.Native.Nat.{_≤_}

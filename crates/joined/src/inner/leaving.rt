@@ -4,9 +4,9 @@ ghost use Rattle.ipc_rules.specs.Sound.{Sound};
 ghost use Rattle.joined.specs.Steps.{leaveOf};
 use crate::answers::LeaveAnswer;
 use crate::answers::Leaving;
-use crate::answers::NOBODY;
 use capslots::ROWS;
 use capslots::Table as Rows;
+use ipc_rules::state::NOBODY;
 use ipc_rules::state::Table as Channels;
 
 // Drains the row and releases its four, with the waiters that this takes out.

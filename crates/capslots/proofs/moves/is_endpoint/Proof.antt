@@ -1,4 +1,4 @@
--- `capslots::is_endpoint` meets its contract: each class by itself. Assumes nothing.
+-- `capslots::moves::is_endpoint` meets its contract: each class by itself. Assumes nothing.
 use borrow.Author.Needs.{needs}
 use Rattle.laws.proofs.Together.{_·_, _·⁵_}
 use Rattle.capslots.proofs.moves.is_endpoint.Statement.{statement}

@@ -1,4 +1,4 @@
--- `capslots::transfer` meets its contract. Past its bounds both slots are inside (`from-inside`, `to-inside`); past the destination's
+-- `capslots::moves::transfer` meets its contract. Past its bounds both slots are inside (`from-inside`, `to-inside`); past the destination's
 -- row it has come the whole way (`way`), and only the destination's slot is left to decide. Assumes nothing.
 use borrow.Author.Tests.{not-false}
 use mathlib.Core.Path.{sym, _∙_}

@@ -1,4 +1,4 @@
--- `capslots::transfer_bounds` meets its contract. Assumes nothing.
+-- `capslots::moves::transfer_bounds` meets its contract. Assumes nothing.
 use Rattle.laws.proofs.Cases.{cases}
 use Rattle.capslots.specs.Transfer.{boundsOf}
 use Rattle.capslots.proofs.moves.transfer_bounds.Statement.{statement}

@@ -1,4 +1,4 @@
--- `ipc::inner::release_holds` meets its contract. The loop's invariant: the table is sound, the waiters answered so far stand first, and
+-- `ipc_holds::inner::release_holds` meets its contract. The loop's invariant: the table is sound, the waiters answered so far stand first, and
 -- releasing what is left of the slots in it gives, after them, what releasing all four gives. Assumes nothing.
 use mathlib.Core.Path.{_≡_, refl, sym, ap, _∙_}
 use mathlib.Core.Bool.{true, false}

@@ -1,4 +1,4 @@
--- `ipc::making::new` meets its contract. Assumes nothing.
+-- `ipc_life::making::new` meets its contract. Assumes nothing.
 use mathlib.Core.Path.{sym, _∙_}
 use Rattle.laws.proofs.Together.{_·_, _·²_}
 use Rattle.laws.proofs.Cases.{yes, no}

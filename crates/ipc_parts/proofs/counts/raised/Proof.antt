@@ -1,4 +1,4 @@
--- `ipc::inner::counts::raised` meets its contract. Assumes nothing.
+-- `ipc_parts::counts::raised` meets its contract. Assumes nothing.
 use Rattle.laws.proofs.Together.{_·_}
 use Rattle.laws.proofs.Cases.{cases}
 use Rattle.ipc_rules.specs.Counts.{raised}

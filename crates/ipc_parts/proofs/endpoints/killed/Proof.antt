@@ -1,4 +1,4 @@
--- `ipc::inner::revocation::killed` meets its contract. Assumes nothing.
+-- `ipc_parts::endpoints::killed` meets its contract. Assumes nothing.
 use Rattle.laws.proofs.Together.{_·_, _·²_}
 use Rattle.laws.proofs.Cases.{cases}
 use Rattle.ipc_rules.specs.Revoke.{killed}

@@ -1,4 +1,4 @@
--- `ipc::inner::holds::fewer` meets its contract. Assumes nothing.
+-- `ipc_parts::mailboxes::fewer` meets its contract. Assumes nothing.
 use mathlib.Core.Path.{ap}
 use Prim.Native.Nat.{ℕ}
 use native.Mathlib.Omega.{arith}

@@ -1,4 +1,4 @@
--- `ipc::inner::holds::more` meets its contract. Assumes nothing.
+-- `ipc_parts::mailboxes::more` meets its contract. Assumes nothing.
 use borrow.Author.Needs.{needs}
 use Rattle.laws.proofs.Together.{_·_}
 use Rattle.ipc_parts.proofs.mailboxes.more.Statement.{statement}

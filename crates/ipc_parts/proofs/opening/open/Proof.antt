@@ -1,4 +1,4 @@
--- `ipc::opening::open` meets its contract. Each return passed or failed the tests that the rule makes, in its order. Assumes nothing.
+-- `ipc_parts::opening::open` meets its contract. Each return passed or failed the tests that the rule makes, in its order. Assumes nothing.
 use Rattle.laws.proofs.Together.{_·_}
 use Rattle.laws.proofs.Cases.{cases}
 use Rattle.ipc_rules.specs.Opening.{openOf}

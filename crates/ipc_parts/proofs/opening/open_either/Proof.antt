@@ -1,4 +1,4 @@
--- `ipc::opening::open_either` meets its contract. Assumes nothing.
+-- `ipc_parts::opening::open_either` meets its contract. Assumes nothing.
 use Rattle.laws.proofs.Together.{_·_, _·⁴_}
 use Rattle.laws.proofs.Cases.{cases}
 use Rattle.ipc_rules.specs.Opening.{openEither}

@@ -1,4 +1,4 @@
--- `ipc::inner::waiters::other_waits` meets its contract. Assumes nothing.
+-- `ipc_parts::waiters::other_waits` meets its contract. Assumes nothing.
 use Rattle.laws.proofs.Together.{_·_}
 use Rattle.laws.proofs.Cases.{cases}
 use borrow.Author.Needs.{needs}

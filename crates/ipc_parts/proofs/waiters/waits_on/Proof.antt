@@ -1,4 +1,4 @@
--- `ipc::inner::waiters::waits_on` meets its contract. Assumes nothing.
+-- `ipc_parts::waiters::waits_on` meets its contract. Assumes nothing.
 use Rattle.laws.proofs.Together.{_·_}
 use Rattle.laws.proofs.Cases.{cases}
 use borrow.Author.Needs.{needs}

@@ -1,4 +1,4 @@
--- `line::text::digits` meets its contract, by induction on the places that are left. Assumes nothing.
+-- `line::text::+digits` meets its contract, by induction on the places that are left. Assumes nothing.
 use borrow.Author.Needs.{needs}
 use Rattle.line.proofs.Pieces.{none, one, next}
 use Prim.Native.Nat.{ℕ, _<_}

@@ -1,4 +1,4 @@
--- `logread::list_ok` meets its contract: the four tests together are `every` of the rule. Assumes nothing.
+-- `logread::lists::list_ok` meets its contract: the four tests together are `every` of the rule. Assumes nothing.
 use Rattle.laws.proofs.Together.{_·_, _·⁴_}
 use Rattle.laws.specs.Every.{every}
 use Rattle.logread.specs.Lists.{listOk}

@@ -1,4 +1,4 @@
--- `logread::list_slot` meets its contract. Assumes nothing.
+-- `logread::lists::list_slot` meets its contract. Assumes nothing.
 use Rattle.laws.proofs.Together.{_·_, _·²_, _·³_}
 use Rattle.laws.proofs.Cases.{cases}
 use Rattle.logread.specs.Lists.{listSlot}

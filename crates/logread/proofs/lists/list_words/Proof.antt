@@ -1,4 +1,4 @@
--- `logread::list_words` meets its contract. Assumes nothing.
+-- `logread::lists::list_words` meets its contract. Assumes nothing.
 use borrow.Author.Needs.{needs}
 use Rattle.logread.proofs.lists.list_words.Statement.{statement}
 use Rattle.logread.proofs.lists.list_words.Tie as tie

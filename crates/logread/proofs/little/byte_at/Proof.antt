@@ -1,4 +1,4 @@
--- `logread::byte_at` meets its contract. Assumes nothing.
+-- `logread::little::byte_at` meets its contract. Assumes nothing.
 use lib.ListN.{List·getD-eq-default}
 use mathlib.Core.Path.{sym}
 use borrow.Author.Needs.{needs}

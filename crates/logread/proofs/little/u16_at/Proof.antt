@@ -1,4 +1,4 @@
--- `logread::u16_at` meets its contract: two bytes, or nothing past the end. Assumes nothing.
+-- `logread::little::u16_at` meets its contract: two bytes, or nothing past the end. Assumes nothing.
 use native.Mathlib.Omega.{arith}
 use Rattle.laws.proofs.Together.{_·_, _·⁷_}
 use Rattle.logread.proofs.Numbers.{past}

@@ -1,4 +1,4 @@
--- `logread::u32_at` meets its contract by `split`, two bytes and two. Assumes nothing.
+-- `logread::little::u32_at` meets its contract by `split`, two bytes and two. Assumes nothing.
 use native.Mathlib.Omega.{arith}
 use Rattle.laws.proofs.Together.{_·_, _·⁷_}
 use Rattle.logread.proofs.Numbers.{past, split}

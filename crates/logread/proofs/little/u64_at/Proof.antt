@@ -1,4 +1,4 @@
--- `logread::u64_at` meets its contract by `split`, four bytes and four. Assumes nothing.
+-- `logread::little::u64_at` meets its contract by `split`, four bytes and four. Assumes nothing.
 use native.Mathlib.Omega.{arith}
 use Rattle.laws.proofs.Together.{_·_, _·⁷_}
 use Rattle.logread.proofs.Numbers.{past, split}

@@ -1,5 +1,5 @@
 -- `operations::channels::op_clear_waiter` meets its contract. Assumes nothing.
-use Rattle.operations.specs.Channels.{clearDone, cleared}
+use Rattle.operations.specs.Channels.{clearDone, afterClear}
 use Rattle.operations.proofs.Packs.{packs}
 use borrow.Author.Needs.{needs}
 use Rattle.operations.proofs.channels.op_clear_waiter.Statement.{statement}
@@ -21,7 +21,7 @@ returns : tie.Need-returns
 unfolding clearDone
 returns c =
     rw (← c .before .before .before .task-at .ensures)
-    (packs (cleared (c .before .before .before .before .before .args .t)) (c .before .before .clear-waiter .ensures) (c .before .shown .ensures) (c .with-channels .ensures))
+    (packs (afterClear (c .before .before .before .before .before .args .t)) (c .before .before .clear-waiter .ensures) (c .before .shown .ensures) (c .with-channels .ensures))
 
 pub op-clear-waiter-spec : {M : Type 1} → statement M
 op-clear-waiter-spec =

@@ -1,5 +1,5 @@
 -- `operations::channels::op_create` meets its contract. Assumes nothing.
-use Rattle.operations.specs.Channels.{createDone, created}
+use Rattle.operations.specs.Channels.{createDone, afterCreate}
 use Rattle.operations.proofs.Packs.{packs}
 use borrow.Author.Needs.{needs}
 use Rattle.operations.proofs.channels.op_create.Statement.{statement}
@@ -21,7 +21,7 @@ returns : tie.Need-returns
 unfolding createDone
 returns c =
     rw (← c .before .before .before .byte-at .ensures)
-    (packs (created (c .before .before .before .before .before .args .t)) (c .before .before .create .ensures) (c .before .shown .ensures) (c .with-channels .ensures))
+    (packs (afterCreate (c .before .before .before .before .before .args .t)) (c .before .before .create .ensures) (c .before .shown .ensures) (c .with-channels .ensures))
 
 pub op-create-spec : {M : Type 1} → statement M
 op-create-spec =

@@ -1,5 +1,5 @@
 -- `operations::channels::op_revoke` meets its contract. Assumes nothing.
-use Rattle.operations.specs.Channels.{revokeDone, revoked}
+use Rattle.operations.specs.Channels.{revokeDone, afterRevoke}
 use Rattle.operations.proofs.Packs.{packs}
 use borrow.Author.Needs.{needs}
 use Rattle.operations.proofs.channels.op_revoke.Statement.{statement}
@@ -21,7 +21,7 @@ returns : tie.Need-returns
 unfolding revokeDone
 returns c =
     rw (← c .before .before .before .id-at .ensures)
-    (packs (revoked (c .before .before .before .before .before .args .t)) (c .before .before .revoke-channel .ensures) (c .before .shown .ensures) (c .with-channels .ensures))
+    (packs (afterRevoke (c .before .before .before .before .before .args .t)) (c .before .before .revoke-channel .ensures) (c .before .shown .ensures) (c .with-channels .ensures))
 
 pub op-revoke-spec : {M : Type 1} → statement M
 op-revoke-spec =

@@ -1,6 +1,6 @@
 -- `operations::counts::op_holders` meets its contract. Assumes nothing.
 use mathlib.Core.Path.{refl}
-use Rattle.operations.specs.Channels.{holdersDone, holders}
+use Rattle.operations.specs.Channels.{holdersDone, afterHolders}
 use Rattle.operations.proofs.Packs.{packs}
 use borrow.Author.Needs.{needs}
 use Rattle.operations.proofs.counts.op_holders.Statement.{statement}
@@ -19,7 +19,7 @@ returns : tie.Need-returns
 unfolding holdersDone
 returns c =
     rw (← c .before .before .id-at .ensures)
-    (packs (holders (c .before .before .before .before .args .t)) (c .before .send-holders .ensures) (c .shown .ensures) refl)
+    (packs (afterHolders (c .before .before .before .before .args .t)) (c .before .send-holders .ensures) (c .shown .ensures) refl)
 
 pub op-holders-spec : {M : Type 1} → statement M
 op-holders-spec = tie.close (tie.spec id-at-requires send-holders-requires shown-requires returns)

@@ -1,5 +1,5 @@
 -- `operations::counts::op_note_state` meets its contract. Assumes nothing.
-use Rattle.operations.specs.Channels.{noteStateDone, noted}
+use Rattle.operations.specs.Channels.{noteStateDone, afterNote}
 use Rattle.operations.proofs.Packs.{packs}
 use borrow.Author.Needs.{needs}
 use Rattle.operations.proofs.counts.op_note_state.Statement.{statement}
@@ -16,7 +16,7 @@ with-channels-requires c κs = search needs
 
 returns : tie.Need-returns
 unfolding noteStateDone
-returns c = packs (noted (c .before .before .before .args .t)) (c .before .before .note-state-refusal .ensures) (c .before .shown .ensures) (c .with-channels .ensures)
+returns c = packs (afterNote (c .before .before .before .args .t)) (c .before .before .note-state-refusal .ensures) (c .before .shown .ensures) (c .with-channels .ensures)
 
 pub op-note-state-spec : {M : Type 1} → statement M
 op-note-state-spec =

@@ -1,4 +1,4 @@
--- `operations::all_fresh` meets its contract. Assumes nothing.
+-- `operations::fresh::all_fresh` meets its contract. Assumes nothing.
 use mathlib.Core.Path.{refl}
 use borrow.Author.Needs.{needs}
 use Rattle.operations.proofs.fresh.all_fresh.Statement.{statement}

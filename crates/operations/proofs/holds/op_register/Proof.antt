@@ -1,5 +1,5 @@
 -- `operations::holds::op_register` meets its contract. Assumes nothing.
-use Rattle.operations.specs.Holds.{registerDone, registered}
+use Rattle.operations.specs.Holds.{registerDone, afterRegister}
 use Rattle.operations.proofs.Packs.{packs}
 use borrow.Author.Needs.{needs}
 use Rattle.operations.proofs.holds.op_register.Statement.{statement}
@@ -24,7 +24,7 @@ returns : tie.Need-returns
 unfolding registerDone
 returns c =
     rw (← c .before .before .before .before .list-words .ensures)
-    (packs (registered (c .before .before .before .before .before .before .args .t)) (c .before .before .register-holds .ensures) (c .before .shown .ensures) (c .with-channels .ensures))
+    (packs (afterRegister (c .before .before .before .before .before .before .args .t)) (c .before .before .register-holds .ensures) (c .before .shown .ensures) (c .with-channels .ensures))
 
 pub op-register-spec : {M : Type 1} → statement M
 op-register-spec =

@@ -1,5 +1,5 @@
 -- `operations::holds::op_release` meets its contract. Assumes nothing.
-use Rattle.operations.specs.Holds.{releaseDone, released}
+use Rattle.operations.specs.Holds.{releaseDone, afterRelease}
 use Rattle.operations.proofs.Packs.{packs}
 use borrow.Author.Needs.{needs}
 use Rattle.operations.proofs.holds.op_release.Statement.{statement}
@@ -21,7 +21,7 @@ returns : tie.Need-returns
 unfolding releaseDone
 returns c =
     rw (← c .before .before .before .before .list-slots .ensures)
-    (packs (released (c .before .before .before .before .before .before .args .t)) (c .before .before .before .release-holds .ensures) (c .before .shown .ensures) (c .with-channels .ensures))
+    (packs (afterRelease (c .before .before .before .before .before .before .args .t)) (c .before .before .before .release-holds .ensures) (c .before .shown .ensures) (c .with-channels .ensures))
 
 pub op-release-spec : {M : Type 1} → statement M
 op-release-spec =

@@ -1,5 +1,5 @@
 -- `operations::joined_steps::op_give` meets its contract. Assumes nothing.
-use Rattle.operations.specs.Joined.{giveDone, given}
+use Rattle.operations.specs.Joined.{giveDone, afterGive}
 use Rattle.operations.proofs.Packs.{packs}
 use borrow.Author.Needs.{needs}
 use Rattle.operations.proofs.joined_steps.op_give.Statement.{statement}
@@ -27,7 +27,7 @@ returns : tie.Need-returns
 unfolding giveDone
 returns c =
     rw (← c .before .before .before .id-at .ensures, ← c .before .before .before .before .index-at2 .ensures, ← c .before .before .before .before .before .index-at .ensures)
-    (packs (given (c .before .before .before .before .before .before .before .args .t)) (c .before .before .give .ensures) (c .before .shown .ensures) (c .with-both .ensures))
+    (packs (afterGive (c .before .before .before .before .before .before .before .args .t)) (c .before .before .give .ensures) (c .before .shown .ensures) (c .with-both .ensures))
 
 pub op-give-spec : {M : Type 1} → statement M
 op-give-spec =

@@ -1,5 +1,5 @@
 -- `operations::joined_steps::op_leave` meets its contract. Assumes nothing.
-use Rattle.operations.specs.Joined.{leaveDone, left}
+use Rattle.operations.specs.Joined.{leaveDone, afterLeave}
 use Rattle.operations.proofs.Packs.{packs}
 use borrow.Author.Needs.{needs}
 use Rattle.operations.proofs.joined_steps.op_leave.Statement.{statement}
@@ -21,7 +21,7 @@ returns : tie.Need-returns
 unfolding leaveDone
 returns c =
     rw (← c .before .before .before .before .index-at .ensures)
-    (packs (left (c .before .before .before .before .before .before .args .t)) (c .before .before .before .leave .ensures) (c .before .shown .ensures) (c .with-both .ensures))
+    (packs (afterLeave (c .before .before .before .before .before .before .args .t)) (c .before .before .before .leave .ensures) (c .before .shown .ensures) (c .with-both .ensures))
 
 pub op-leave-spec : {M : Type 1} → statement M
 op-leave-spec =

@@ -1,5 +1,5 @@
 -- `operations::joined_steps::op_spawn` meets its contract. Assumes nothing.
-use Rattle.operations.specs.Joined.{spawnDone, spawned}
+use Rattle.operations.specs.Joined.{spawnDone, afterSpawn}
 use Rattle.operations.proofs.Packs.{packs}
 use borrow.Author.Needs.{needs}
 use Rattle.operations.proofs.joined_steps.op_spawn.Statement.{statement}
@@ -27,7 +27,7 @@ returns : tie.Need-returns
 unfolding spawnDone
 returns c =
     rw (← c .before .before .before .before .index-at .ensures, ← c .before .before .before .before .before .list-words .ensures)
-    (packs (spawned (c .before .before .before .before .before .before .before .args .t)) (c .before .before .spawn .ensures) (c .before .shown .ensures) (c .with-both .ensures))
+    (packs (afterSpawn (c .before .before .before .before .before .before .before .args .t)) (c .before .before .spawn .ensures) (c .before .shown .ensures) (c .with-both .ensures))
 
 pub op-spawn-spec : {M : Type 1} → statement M
 op-spawn-spec =

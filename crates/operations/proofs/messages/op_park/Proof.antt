@@ -1,5 +1,5 @@
 -- `operations::messages::op_park` meets its contract. Assumes nothing.
-use Rattle.operations.specs.Channels.{parkDone, parked}
+use Rattle.operations.specs.Channels.{parkDone, afterPark}
 use Rattle.operations.proofs.Packs.{packs}
 use borrow.Author.Needs.{needs}
 use Rattle.operations.proofs.messages.op_park.Statement.{statement}
@@ -24,7 +24,7 @@ returns : tie.Need-returns
 unfolding parkDone
 returns c =
     rw (← c .before .before .before .task-at .ensures, ← c .before .before .before .before .id-at .ensures)
-    (packs (parked (c .before .before .before .before .before .before .args .t)) (c .before .before .park .ensures) (c .before .shown .ensures) (c .with-channels .ensures))
+    (packs (afterPark (c .before .before .before .before .before .before .args .t)) (c .before .before .park .ensures) (c .before .shown .ensures) (c .with-channels .ensures))
 
 pub op-park-spec : {M : Type 1} → statement M
 op-park-spec =

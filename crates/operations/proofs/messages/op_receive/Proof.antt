@@ -1,5 +1,5 @@
 -- `operations::messages::op_receive` meets its contract. Assumes nothing.
-use Rattle.operations.specs.Channels.{receiveDone, received}
+use Rattle.operations.specs.Channels.{receiveDone, afterReceive}
 use Rattle.operations.proofs.Packs.{packs}
 use borrow.Author.Needs.{needs}
 use Rattle.operations.proofs.messages.op_receive.Statement.{statement}
@@ -21,7 +21,7 @@ returns : tie.Need-returns
 unfolding receiveDone
 returns c =
     rw (← c .before .before .before .id-at .ensures)
-    (packs (received (c .before .before .before .before .before .args .t)) (c .before .before .try-recv .ensures) (c .before .shown .ensures) (c .with-channels .ensures))
+    (packs (afterReceive (c .before .before .before .before .before .args .t)) (c .before .before .try-recv .ensures) (c .before .shown .ensures) (c .with-channels .ensures))
 
 pub op-receive-spec : {M : Type 1} → statement M
 op-receive-spec =

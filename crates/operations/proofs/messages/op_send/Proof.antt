@@ -1,5 +1,5 @@
 -- `operations::messages::op_send` meets its contract. Assumes nothing.
-use Rattle.operations.specs.Channels.{sendDone, sent}
+use Rattle.operations.specs.Channels.{sendDone, afterSend}
 use Rattle.operations.proofs.Packs.{packs}
 use borrow.Author.Needs.{needs}
 use Rattle.operations.proofs.messages.op_send.Statement.{statement}
@@ -24,7 +24,7 @@ returns : tie.Need-returns
 unfolding sendDone
 returns c =
     rw (← c .before .before .before .message-at .ensures, ← c .before .before .before .before .id-at .ensures)
-    (packs (sent (c .before .before .before .before .before .before .args .t)) (c .before .before .send .ensures) (c .before .shown .ensures) (c .with-channels .ensures))
+    (packs (afterSend (c .before .before .before .before .before .before .args .t)) (c .before .before .send .ensures) (c .before .shown .ensures) (c .with-channels .ensures))
 
 pub op-send-spec : {M : Type 1} → statement M
 op-send-spec =

@@ -1,5 +1,5 @@
 -- `operations::mints::op_irq_mint` meets its contract. Assumes nothing.
-use Rattle.operations.specs.Mints.{irqMintDone, irqMinted}
+use Rattle.operations.specs.Mints.{irqMintDone, afterIrqMint}
 use Rattle.operations.proofs.Packs.{packs}
 use borrow.Author.Needs.{needs}
 use Rattle.operations.proofs.mints.op_irq_mint.Statement.{statement}
@@ -21,7 +21,7 @@ returns : tie.Need-returns
 unfolding irqMintDone
 returns c =
     rw (← c .before .before .before .u32-at .ensures)
-    (packs (irqMinted (c .before .before .before .before .before .args .t)) (c .before .before .mint .ensures) (c .before .shown .ensures) (c .with-irqs .ensures))
+    (packs (afterIrqMint (c .before .before .before .before .before .args .t)) (c .before .before .mint .ensures) (c .before .shown .ensures) (c .with-irqs .ensures))
 
 pub op-irq-mint-spec : {M : Type 1} → statement M
 op-irq-mint-spec =

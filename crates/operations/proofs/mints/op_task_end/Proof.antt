@@ -1,5 +1,5 @@
 -- `operations::mints::op_task_end` meets its contract. Assumes nothing.
-use Rattle.operations.specs.Mints.{taskEndDone, ended}
+use Rattle.operations.specs.Mints.{taskEndDone, afterTaskEnd}
 use Rattle.operations.proofs.Packs.{packs}
 use borrow.Author.Needs.{needs}
 use Rattle.operations.proofs.mints.op_task_end.Statement.{statement}
@@ -21,7 +21,7 @@ returns : tie.Need-returns
 unfolding taskEndDone
 returns c =
     rw (← c .before .before .before .u32-at .ensures)
-    (packs (ended (c .before .before .before .before .before .args .t)) (c .before .before .revoke-task .ensures) (c .before .revoke-shown .ensures) (c .with-tasks .ensures))
+    (packs (afterTaskEnd (c .before .before .before .before .before .args .t)) (c .before .before .revoke-task .ensures) (c .before .revoke-shown .ensures) (c .with-tasks .ensures))
 
 pub op-task-end-spec : {M : Type 1} → statement M
 op-task-end-spec =

@@ -1,5 +1,5 @@
 -- `operations::mints::op_task_mint` meets its contract. Assumes nothing.
-use Rattle.operations.specs.Mints.{taskMintDone, taskMinted}
+use Rattle.operations.specs.Mints.{taskMintDone, afterTaskMint}
 use Rattle.operations.proofs.Packs.{packs}
 use borrow.Author.Needs.{needs}
 use Rattle.operations.proofs.mints.op_task_mint.Statement.{statement}
@@ -21,7 +21,7 @@ returns : tie.Need-returns
 unfolding taskMintDone
 returns c =
     rw (← c .before .before .before .u32-at .ensures)
-    (packs (taskMinted (c .before .before .before .before .before .args .t)) (c .before .before .mint .ensures) (c .before .shown .ensures) (c .with-tasks .ensures))
+    (packs (afterTaskMint (c .before .before .before .before .before .args .t)) (c .before .before .mint .ensures) (c .before .shown .ensures) (c .with-tasks .ensures))
 
 pub op-task-mint-spec : {M : Type 1} → statement M
 op-task-mint-spec =

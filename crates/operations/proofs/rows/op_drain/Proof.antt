@@ -1,5 +1,5 @@
 -- `operations::rows::op_drain` meets its contract. Assumes nothing.
-use Rattle.operations.specs.Rows.{drainDone, drained}
+use Rattle.operations.specs.Rows.{drainDone, afterDrain}
 use Rattle.operations.proofs.Packs.{packs}
 use borrow.Author.Needs.{needs}
 use Rattle.operations.proofs.rows.op_drain.Statement.{statement}
@@ -21,7 +21,7 @@ returns : tie.Need-returns
 unfolding drainDone
 returns c =
     rw (← c .before .before .before .before .index-at .ensures)
-    (packs (drained (c .before .before .before .before .before .before .args .t)) (c .before .before .before .drain .ensures) (c .before .drain-shown .ensures) (c .with-rows .ensures))
+    (packs (afterDrain (c .before .before .before .before .before .before .args .t)) (c .before .before .before .drain .ensures) (c .before .drain-shown .ensures) (c .with-rows .ensures))
 
 pub op-drain-spec : {M : Type 1} → statement M
 op-drain-spec =

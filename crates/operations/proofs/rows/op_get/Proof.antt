@@ -1,6 +1,6 @@
 -- `operations::rows::op_get` meets its contract. Assumes nothing.
 use mathlib.Core.Path.{refl}
-use Rattle.operations.specs.Rows.{getDone, got}
+use Rattle.operations.specs.Rows.{getDone, afterGet}
 use Rattle.operations.proofs.Packs.{packs}
 use borrow.Author.Needs.{needs}
 use Rattle.operations.proofs.rows.op_get.Statement.{statement}
@@ -22,7 +22,7 @@ returns : tie.Need-returns
 unfolding getDone
 returns c =
     rw (← c .before .before .index-at2 .ensures, ← c .before .before .before .index-at .ensures)
-    (packs (got (c .before .before .before .before .before .args .t)) (c .before .get .ensures) (c .shown .ensures) refl)
+    (packs (afterGet (c .before .before .before .before .before .args .t)) (c .before .get .ensures) (c .shown .ensures) refl)
 
 pub op-get-spec : {M : Type 1} → statement M
 op-get-spec =

@@ -1,5 +1,5 @@
 -- `operations::rows::op_install` meets its contract. Assumes nothing.
-use Rattle.operations.specs.Rows.{installDone, installed}
+use Rattle.operations.specs.Rows.{installDone, afterInstall}
 use Rattle.operations.proofs.Packs.{packs}
 use borrow.Author.Needs.{needs}
 use Rattle.operations.proofs.rows.op_install.Statement.{statement}
@@ -27,7 +27,7 @@ returns : tie.Need-returns
 unfolding installDone
 returns c =
     rw (← c .before .before .before .id-at .ensures, ← c .before .before .before .before .index-at2 .ensures, ← c .before .before .before .before .before .index-at .ensures)
-    (packs (installed (c .before .before .before .before .before .before .before .args .t)) (c .before .before .install .ensures) (c .before .shown .ensures) (c .with-rows .ensures))
+    (packs (afterInstall (c .before .before .before .before .before .before .before .args .t)) (c .before .before .install .ensures) (c .before .shown .ensures) (c .with-rows .ensures))
 
 pub op-install-spec : {M : Type 1} → statement M
 op-install-spec =

@@ -1,5 +1,5 @@
 -- `operations::rows::op_seed` meets its contract. Assumes nothing.
-use Rattle.operations.specs.Rows.{seedDone, seeded}
+use Rattle.operations.specs.Rows.{seedDone, afterSeed}
 use Rattle.operations.proofs.Packs.{packs}
 use borrow.Author.Needs.{needs}
 use Rattle.operations.proofs.rows.op_seed.Statement.{statement}
@@ -27,7 +27,7 @@ returns : tie.Need-returns
 unfolding seedDone
 returns c =
     rw (← c .before .before .before .before .index-at .ensures, ← c .before .before .before .before .before .list-words .ensures)
-    (packs (seeded (c .before .before .before .before .before .before .before .args .t)) (c .before .before .seed .ensures) (c .before .shown .ensures) (c .with-rows .ensures))
+    (packs (afterSeed (c .before .before .before .before .before .before .before .args .t)) (c .before .before .seed .ensures) (c .before .shown .ensures) (c .with-rows .ensures))
 
 pub op-seed-spec : {M : Type 1} → statement M
 op-seed-spec =

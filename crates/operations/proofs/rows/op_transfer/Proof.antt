@@ -1,5 +1,5 @@
 -- `operations::rows::op_transfer` meets its contract. Assumes nothing.
-use Rattle.operations.specs.Rows.{transferDone, transferred}
+use Rattle.operations.specs.Rows.{transferDone, afterTransfer}
 use Rattle.operations.proofs.Packs.{packs}
 use borrow.Author.Needs.{needs}
 use Rattle.operations.proofs.rows.op_transfer.Statement.{statement}
@@ -30,7 +30,7 @@ returns : tie.Need-returns
 unfolding transferDone
 returns c =
     rw (← c .before .before .before .index-at4 .ensures, ← c .before .before .before .before .index-at3 .ensures, ← c .before .before .before .before .before .index-at2 .ensures, ← c .before .before .before .before .before .before .index-at .ensures)
-    (packs (transferred (c .before .before .before .before .before .before .before .before .args .t)) (c .before .before .transfer .ensures) (c .before .shown .ensures) (c .with-rows .ensures))
+    (packs (afterTransfer (c .before .before .before .before .before .before .before .before .args .t)) (c .before .before .transfer .ensures) (c .before .shown .ensures) (c .with-rows .ensures))
 
 pub op-transfer-spec : {M : Type 1} → statement M
 op-transfer-spec =

@@ -1,4 +1,4 @@
--- `ipc::inner::counts::note_authority_refusal` meets its contract. Assumes nothing.
+-- `ipc_life::inner::counts::note_authority_refusal` meets its contract. Assumes nothing.
 use borrow.Author.Needs.{needs}
 use Rattle.laws.proofs.Together.{_·_}
 use Rattle.ipc_life.proofs.inner.counts.note_authority_refusal.Statement.{statement}

@@ -1,4 +1,4 @@
--- `ipc::inner::creation::create` meets its contract. The three searches found what the rule looks for, within the arrays. Assumes nothing.
+-- `ipc_life::inner::creation::create` meets its contract. The three searches found what the rule looks for, within the arrays. Assumes nothing.
 use mathlib.Core.Path.{refl, sym, _∙_}
 use Prim.Native.Nat.{_<_}
 use native.Mathlib.Omega.{arith}

@@ -1,4 +1,4 @@
--- `ipc::inner::free_mailbox` meets its contract. The loop's invariant: from `i` up the search finds what it finds from the start. Assumes nothing.
+-- `ipc_life::inner::creation::free_mailbox` meets its contract. The loop's invariant: from `i` up the search finds what it finds from the start. Assumes nothing.
 use mathlib.Core.Path.{_≡_, refl, sym, _∙_}
 use Prim.Native.Nat.{_-_}
 use native.Mathlib.Omega.{arith}

@@ -1,4 +1,4 @@
--- `ipc::inner::revoke_channel` meets its contract. The first loop's invariant: the first `j` endpoints are killed where they are ends of
+-- `ipc_life::inner::revocation::revoke_channel` meets its contract. The first loop's invariant: the first `j` endpoints are killed where they are ends of
 -- mailbox k; the second's: the first `p` places of its ring are wiped. Nothing else of the table has changed. Assumes nothing.
 use mathlib.Core.Path.{_≡_, refl, sym, _∙_}
 use Prim.Native.Nat.{ℕ, _+_, _*_, _-_, _≤_}

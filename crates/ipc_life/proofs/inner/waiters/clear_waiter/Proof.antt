@@ -1,4 +1,4 @@
--- `ipc::inner::clear_waiter` meets its contract. The loop's invariant: the first `k` mailboxes are without the task where it waited on
+-- `ipc_life::inner::waiters::clear_waiter` meets its contract. The loop's invariant: the first `k` mailboxes are without the task where it waited on
 -- them, and counted; nothing else of the table has changed. Assumes nothing.
 use mathlib.Core.Path.{_≡_, refl, sym, ap, _∙_}
 use mathlib.Core.Bool.{true, false}

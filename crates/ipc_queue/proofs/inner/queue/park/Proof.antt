@@ -1,4 +1,4 @@
--- `ipc::inner::queue::park` meets its contract. As for `send`. Assumes nothing.
+-- `ipc_queue::inner::queue::park` meets its contract. As for `send`. Assumes nothing.
 use mathlib.Core.Path.{_≡_, sym, _∙_}
 use mathlib.Core.Bool.{true, false}
 use native.Mathlib.Omega.{arith}

@@ -1,4 +1,4 @@
--- `ipc::inner::queue::send` meets its contract. What `open` gave is what the rule asks, and a mailbox that opens is live. Assumes nothing.
+-- `ipc_queue::inner::queue::send` meets its contract. What `open` gave is what the rule asks, and a mailbox that opens is live. Assumes nothing.
 use mathlib.Core.Path.{_≡_, sym, _∙_}
 use native.Mathlib.Omega.{arith}
 use Rattle.laws.proofs.Together.{_·_, _·⁸_}

@@ -1,4 +1,4 @@
--- `ipc::inner::queue::try_recv` meets its contract. As for `send`. Assumes nothing.
+-- `ipc_queue::inner::queue::try_recv` meets its contract. As for `send`. Assumes nothing.
 use mathlib.Core.Path.{_≡_, sym, _∙_}
 use native.Mathlib.Omega.{arith}
 use Rattle.laws.proofs.Together.{_·_, _·⁸_}

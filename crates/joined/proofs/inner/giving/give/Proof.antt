@@ -1,4 +1,4 @@
--- `joined::inner::give` meets its contract: the list of one word that it registers reads as the id. Assumes nothing.
+-- `joined::inner::giving::give` meets its contract: the list of one word that it registers reads as the id. Assumes nothing.
 use mathlib.Core.Path.{_≡_, refl, ap, _∙_}
 use mathlib.Core.List.{[], _∷_}
 use Prim.Native.Nat.{ℕ, _<_}

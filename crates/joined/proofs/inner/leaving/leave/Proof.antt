@@ -1,4 +1,4 @@
--- `joined::inner::leave` meets its contract. Assumes nothing.
+-- `joined::inner::leaving::leave` meets its contract. Assumes nothing.
 use mathlib.Core.Path.{_≡_}
 use Prim.Native.Nat.{ℕ, _<_}
 use borrow.Author.Needs.{needs}

@@ -1,4 +1,4 @@
--- `joined::inner::spawn` meets its contract: its tests come in the rule's order. Assumes nothing.
+-- `joined::inner::spawning::spawn` meets its contract: its tests come in the rule's order. Assumes nothing.
 use mathlib.Core.Path.{_≡_, sym, _∙_}
 use mathlib.Core.Bool.{Bool, false, not}
 use mathlib.Core.List.{List}
