@@ -3,3 +3,5 @@ pub mod Places
 pub mod Ways
 pub mod Calls
 pub mod Few
+pub mod Empty
+pub mod Forgotten

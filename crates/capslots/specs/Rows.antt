@@ -1,11 +1,16 @@
--- Document 01, "Rows and binding": get, holds, seed, install and drain, on every row and slot.
-use mathlib.Core.Bool.{Bool, false}
-use mathlib.Core.List.{List, [], _∷_}
+-- Document 01, "Rows and binding": get, holds, seed, install and drain, on every row and slot; and, for whoever places ids himself, the
+-- lowest empty slot of a row, and ids forgotten in every row.
+use mathlib.Core.Bool.{Bool, false, _||_}
+use mathlib.Core.List.{List, [], _∷_, map}
 use Prim.Native.Nat.{ℕ}
 use lib.Dec.{eqb, leb}
+use lib.ListN.{getD}
 use Rattle.laws.specs.Pick.{pick}
 use Rattle.laws.specs.Every.{some}
-use Rattle.cap.specs.Slot.{fourVacant, holding, fromSlot}
+use Rattle.laws.specs.Search.{lowestFree}
+use Rattle.laws.specs.declared.Found.{Found}
+use Rattle.laws.specs.declared.Found.the-variants.{Nowhere}
+use Rattle.cap.specs.Slot.{vacantSlot, fourVacant, holding, fromSlot}
 use Rattle.cap.specs.Word.{wordsRead, slotAt}
 use Rattle.cap.specs.declared.CapId.{CapId}
 use Rattle.cap.specs.declared.slot.Slot.{Slot}
@@ -56,3 +61,27 @@ unfoldable pub drainOf : Table → ℕ → Drained
 drainOf t r =
     pick (leb 54 r) (record { slots = fourVacant; table = t })
     (record { slots = rowAt t r .slots; table = withRow t r emptyRow })
+
+-- slot s of a row holds an id
+abbrev pub takenIn : Row → ℕ → Bool
+takenIn row s = getD (row .slots) s vacantSlot .present
+
+-- the lowest slot of a row that holds none
+abbrev pub emptyIn : Row → Found
+emptyIn row = lowestFree (takenIn row) 0 4
+
+-- the lowest empty slot of row r; a bad row has none
+unfoldable pub emptySlotOf : Table → ℕ → Found
+emptySlotOf t r = pick (leb 54 r) Nowhere (emptyIn (rowAt t r))
+
+-- a slot that holds one of two ids becomes vacant, another stays as it is
+unfoldable pub forgetIn : CapId → CapId → Slot → Slot
+forgetIn a b x = pick (namesId a x || namesId b x) vacantSlot x
+
+-- every slot of a row so
+abbrev pub forgetRow : CapId → CapId → Row → Row
+forgetRow a b row = record { slots = map (forgetIn a b) (row .slots) }
+
+-- and every row
+unfoldable pub forgottenOf : Table → CapId → CapId → Table
+forgottenOf t a b = record { rows = map (forgetRow a b) (t .rows) }

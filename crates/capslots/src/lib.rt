@@ -8,6 +8,7 @@ use cap::SlotAnswer;
 
 mod answers;
 mod moves;
+mod vacancies;
 
 pub use answers::InstallAnswer;
 pub use answers::SeedAnswer;
@@ -17,6 +18,8 @@ pub use answers::holds_shown;
 pub use moves::Transferred;
 pub use moves::transfer;
 pub use moves::transfer_bounds;
+pub use vacancies::empty_slot;
+pub use vacancies::forget;
 
 pub const ROWS: usize = 54;
 

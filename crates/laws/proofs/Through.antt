@@ -1,9 +1,10 @@
 -- A list of which the first i elements have gone through f: what a loop over all of them has done after i turns. Assumes nothing.
-use mathlib.Core.Path.{_≡_, refl, sym, ap}
+use mathlib.Core.Path.{_≡_, refl, sym, ap, _∙_}
 use mathlib.Core.List.{List, [], _∷_, map}
 use Prim.Native.Nat.{ℕ, zero, suc, _+_, _≤_}
 use native.Mathlib.Nat.{le-of-suc-le-suc, not-suc-le-zero}
 use native.Mathlib.Numerals.{add-one}
+use native.Mathlib.Omega.{arith}
 use lib.ListN.{getD, set, length}
 
 unfoldable pub through : {A : Type 0} → (A → A) → ℕ → List A → List A
@@ -47,3 +48,15 @@ through-all f zero [] h = refl
 through-all f (suc n) [] h = refl
 through-all f zero (x ∷ l) h = absurd (not-suc-le-zero h)
 through-all f (suc n) (x ∷ l) h = ap (λ (r : List _). f x ∷ r) (through-all f n l (le-of-suc-le-suc h))
+
+-- a loop `while i < n { l[i] = f(l[i]); i += 1; }` over a list of n: before it, a turn, and the end
+module _ {A : Type 0} (f : A → A) (before : List A) where
+  pub through-none : before ≡ through f 0 before
+  unfolding through
+  through-none = refl
+
+  pub through-turn : (d : A) (i : ℕ) {now : List A} {x : A} → now ≡ through f i before → x ≡ f (getD now i d) → set now i x ≡ through f (i + 1) before
+  through-turn d i h e = rw (e, h, through-at f d i before, through-store f d i before)
+
+  pub through-done : (i n : ℕ) {now : List A} → length before ≡ n → i ≤ n → n ≤ i → now ≡ through f i before → now ≡ map f before
+  through-done i n l a b h = h ∙ through-all f i before (omega arith)
