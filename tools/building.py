@@ -9,10 +9,10 @@ import subprocess
 PATIENCE = 2  # seconds
 
 # What a crate takes on a machine with two processors, where it is more than a few seconds.
-HALF = "about half a minute"
+QUARTER, HALF = "about a quarter of a minute", "about half a minute"
 TAKES = {
-    "line": HALF, "capslots": HALF, "logread": HALF, "ipc_sound": HALF, "ipc_queue": "about a minute", "ipc_holds": HALF,
-    "ipc_life": HALF, "joined": HALF, "operations": "about a minute and a half", "oplog": "about a minute", "player": HALF, "replay": HALF,
+    "line": QUARTER, "capslots": HALF, "logread": QUARTER, "ipc_rules": QUARTER, "ipc_sound": QUARTER, "ipc_queue": QUARTER, "ipc_holds": QUARTER,
+    "ipc_life": QUARTER, "joined": QUARTER, "operations": "about forty seconds", "oplog": HALF, "player": QUARTER, "replay": QUARTER,
 }  # fmt: skip
 
 

@@ -24,7 +24,7 @@ pub waiter-few : (w : Waiter) → length (waiterValues w) ≤ 3
 unfolding waiterValues
 waiter-few w = all-pick (λ l. length l ≤ 3) (w .present) (1 ∷ w .task .slot ∷ w .task .epoch ∷ []) (0 ∷ []) (λ _. omega arith) (λ _. omega arith)
 
-pub three-few : (w : Waiter) → Few (waiterValues w)
+three-few : (w : Waiter) → Few (waiterValues w)
 three-few w = let h = waiter-few w in omega arith
 
 pub waiters-few : (ws : List Waiter) → Few (fourWaiterValues ws)

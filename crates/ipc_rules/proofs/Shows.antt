@@ -2,14 +2,11 @@
 use mathlib.Core.Path.{_≡_, refl}
 use mathlib.Core.List.{[]}
 use Prim.Native.Nat.{ℕ}
-use Rattle.ipc_rules.specs.Answers.{createValues, sendValues, recvValues, parkValues, queuedValues, holdersValues, revokeValues}
+use Rattle.ipc_rules.specs.Answers.{createValues, sendValues, queuedValues, holdersValues, revokeValues}
 use Rattle.ipc_rules.specs.declared.state.Channel.{Channel}
-use Rattle.ipc_rules.specs.declared.state.Message.{Message}
 use Rattle.ipc_rules.specs.declared.state.Waiter.{Waiter}
 use Rattle.ipc_rules.specs.declared.answers.CreateAnswer as create
 use Rattle.ipc_rules.specs.declared.answers.SendAnswer as send
-use Rattle.ipc_rules.specs.declared.answers.RecvAnswer as recv
-use Rattle.ipc_rules.specs.declared.answers.ParkAnswer as park
 use Rattle.ipc_rules.specs.declared.answers.QueuedAnswer as queued
 use Rattle.ipc_rules.specs.declared.answers.HoldersAnswer as holders
 use Rattle.ipc_rules.specs.declared.answers.RevokeAnswer as revoke
@@ -26,12 +23,6 @@ send-none send.the-variants.BadCap h = refl
 send-none send.the-variants.Full h = refl
 send-none send.the-variants.BadTable h = refl
 
-pub recv-none : (a : recv.RecvAnswer) → ((x : Message) → a ≡ recv.the-variants.Received x → ⊥) → recvValues a ≡ []
-recv-none (recv.the-variants.Received x) h = absurd (h x refl)
-recv-none recv.the-variants.BadCap h = refl
-recv-none recv.the-variants.Empty h = refl
-recv-none recv.the-variants.BadTable h = refl
-
 pub queued-none : (a : queued.QueuedAnswer) → ((x : ℕ) → a ≡ queued.the-variants.Queued x → ⊥) → queuedValues a ≡ []
 queued-none (queued.the-variants.Queued x) h = absurd (h x refl)
 queued-none queued.the-variants.BadCap h = refl
@@ -46,11 +37,3 @@ pub revoke-none : (a : revoke.RevokeAnswer) → ((x : Waiter) → a ≡ revoke.t
 revoke-none (revoke.the-variants.Revoked x) h = absurd (h x refl)
 revoke-none revoke.the-variants.BadCap h = refl
 revoke-none revoke.the-variants.BadTable h = refl
-
-pub park-none : (a : park.ParkAnswer) → (a ≡ park.the-variants.Parked → ⊥) → ((m : Message) → a ≡ park.the-variants.Given m → ⊥) → parkValues a ≡ []
-park-none park.the-variants.Parked h g = absurd (h refl)
-park-none (park.the-variants.Given m) h g = absurd (g m refl)
-park-none park.the-variants.BadCap h g = refl
-park-none park.the-variants.Busy h g = refl
-park-none park.the-variants.Cancelled h g = refl
-park-none park.the-variants.BadTable h g = refl

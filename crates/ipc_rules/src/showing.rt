@@ -1,4 +1,7 @@
 // What a line shows of each answer: its number and its values. A refusal shows none.
+//
+// Receive and park name each of their refusals for the optimiser's sake: from `self.number()` it goes on to copy all tables at the start of
+// every operation (docs/PERFORMANCE.md).
 ghost use mathlib.Core.Path.{_≡_};
 ghost use mathlib.Core.List.{_∷_};
 ghost use Rattle.laws.specs.Refusals.{none};
@@ -41,7 +44,10 @@ fn push_waiter(s: Shown, w: Waiter) -> Shown
 fn waiter_shown(w: Waiter) -> Shown
     ensures { λ r. ⌜ r ≡ shown none (waiterValues w) ⌝ }
 {
-    push_waiter(shown::none(refusals::NONE), w)
+    if w.present {
+        return shown::three(refusals::NONE, 1, w.task.slot as u64, w.task.epoch as u64);
+    }
+    shown::one(refusals::NONE, 0)
 }
 
 pub fn four_shown(ws: [Waiter; 4]) -> Shown
@@ -106,10 +112,12 @@ impl RecvAnswer {
     pub fn shown(self) -> Shown
         ensures { λ r. ⌜ r ≡ shown (recvNumber self) (recvValues self) ⌝ }
     {
-        let RecvAnswer::Received(m) = self else {
-            return shown::none(self.number());
-        };
-        message_shown(m)
+        match self {
+            RecvAnswer::Received(m) => message_shown(m),
+            RecvAnswer::BadCap => shown::none(refusals::BAD_CAP),
+            RecvAnswer::Empty => shown::none(refusals::EMPTY),
+            RecvAnswer::BadTable => shown::none(refusals::BAD_TABLE),
+        }
     }
 }
 
@@ -120,7 +128,10 @@ impl ParkAnswer {
         match self {
             ParkAnswer::Parked => shown::one(refusals::NONE, 0),
             ParkAnswer::Given(m) => given_shown(m),
-            _ => shown::none(self.number()),
+            ParkAnswer::BadCap => shown::none(refusals::BAD_CAP),
+            ParkAnswer::Busy => shown::none(refusals::BUSY),
+            ParkAnswer::Cancelled => shown::none(refusals::CANCELLED),
+            ParkAnswer::BadTable => shown::none(refusals::BAD_TABLE),
         }
     }
 }

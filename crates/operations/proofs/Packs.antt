@@ -3,9 +3,7 @@ use mathlib.Core.Path.{_≡_}
 use Rattle.shown.specs.Shown.{shown}
 use Rattle.shown.specs.declared.Shown.{Shown}
 use Rattle.operations.specs.Done.{Done, outcome, packed}
-use Rattle.operations.specs.declared.Outcome.{Outcome}
 
 -- q is what the call gave, p what its rule gives
-pub packs : {R : Type 0} (done : R → Done) {q p : R} {s : Shown} {r : Outcome} → q ≡ p → s ≡ shown (done q .number) (done q .values)
-    → r ≡ outcome s (done q .tables) → r ≡ packed (done p)
-packs done e a h = rw (← e, ← a) h
+pub packs : {R : Type 0} (done : R → Done) {q p : R} {s : Shown} → q ≡ p → s ≡ shown (done q .number) (done q .values) → outcome s (done q .tables) ≡ packed (done p)
+packs done e a = rw (← e, a)

@@ -27,31 +27,46 @@ pub fn op_new(t: Tables, log: &[u8]) -> Outcome
 }
 
 // 1: any flag but 0 asks for an ephemeral channel.
-pub fn op_create(t: Tables, log: &[u8]) -> Outcome
+pub fn op_create(mut t: Tables, log: &[u8]) -> Outcome
     requires { ⌜ Sound (t .channels) ⌝ }
     ensures { λ r. ⌜ r ≡ packed (createDone (now (log .entry)) t) ⌝ }
 {
     let created = ipc_life::inner::create(t.channels, byte_at(log, 3) != 0);
     let answer = created.answer;
-    t.with_channels(created.table, answer.shown())
+    let channels = created.table;
+    t.channels = channels;
+    Outcome {
+        shown: answer.shown(),
+        tables: t,
+    }
 }
 
 // 6.
-pub fn op_revoke(t: Tables, log: &[u8]) -> Outcome
+pub fn op_revoke(mut t: Tables, log: &[u8]) -> Outcome
     requires { ⌜ Sound (t .channels) ⌝ }
     ensures { λ r. ⌜ r ≡ packed (revokeDone (now (log .entry)) t) ⌝ }
 {
     let revoked = ipc_life::inner::revoke_channel(t.channels, id_at(log, 3));
     let answer = revoked.answer;
-    t.with_channels(revoked.table, answer.shown())
+    let channels = revoked.table;
+    t.channels = channels;
+    Outcome {
+        shown: answer.shown(),
+        tables: t,
+    }
 }
 
 // 10.
-pub fn op_clear_waiter(t: Tables, log: &[u8]) -> Outcome
+pub fn op_clear_waiter(mut t: Tables, log: &[u8]) -> Outcome
     requires { ⌜ Sound (t .channels) ⌝ }
     ensures { λ r. ⌜ r ≡ packed (clearDone (now (log .entry)) t) ⌝ }
 {
     let cleared = ipc_life::inner::clear_waiter(t.channels, task_at(log, 3));
     let answer = cleared.answer;
-    t.with_channels(cleared.table, answer.shown())
+    let channels = cleared.table;
+    t.channels = channels;
+    Outcome {
+        shown: answer.shown(),
+        tables: t,
+    }
 }

@@ -33,23 +33,33 @@ pub fn op_holders(t: Tables, log: &[u8]) -> Outcome
 }
 
 // 11.
-pub fn op_note_authority(t: Tables) -> Outcome
+pub fn op_note_authority(mut t: Tables) -> Outcome
     requires { ⌜ Sound (t .channels) ⌝ }
     ensures { λ r. ⌜ r ≡ packed (noteAuthorityDone t) ⌝ }
 {
     let noted = ipc_life::inner::note_authority_refusal(t.channels);
     let answer = noted.answer;
-    t.with_channels(noted.table, answer.shown())
+    let channels = noted.table;
+    t.channels = channels;
+    Outcome {
+        shown: answer.shown(),
+        tables: t,
+    }
 }
 
 // 12.
-pub fn op_note_state(t: Tables) -> Outcome
+pub fn op_note_state(mut t: Tables) -> Outcome
     requires { ⌜ Sound (t .channels) ⌝ }
     ensures { λ r. ⌜ r ≡ packed (noteStateDone t) ⌝ }
 {
     let noted = ipc_life::inner::note_state_refusal(t.channels);
     let answer = noted.answer;
-    t.with_channels(noted.table, answer.shown())
+    let channels = noted.table;
+    t.channels = channels;
+    Outcome {
+        shown: answer.shown(),
+        tables: t,
+    }
 }
 
 // 27: a look that nothing refuses.

@@ -27,8 +27,8 @@ fn unknown(t: Tables) -> Outcome
 
 // The operation of this number, its operands in the record at the log's start.
 //
-// Create, park and register may hand the tables on just as they came. They get a copy of their own for the optimiser's sake: else it copies
-// the tables at the start of every operation, and a replay takes a third longer.
+// Create, register, spawn and give may hand the tables on just as they came. They get a copy of their own for the optimiser's sake: else it
+// copies the tables at the start of every operation, and a replay takes a third longer.
 pub fn apply(op: u8, t: Tables, log: &[u8]) -> Outcome
     requires { ⌜ Sound (t .channels) ⌝ }
     ensures { λ r. ⌜ r ≡ packed (applyOf op (now (log .entry)) t) ⌝ }
@@ -41,10 +41,7 @@ pub fn apply(op: u8, t: Tables, log: &[u8]) -> Outcome
         }
         op::SEND => messages::op_send(t, log),
         op::RECEIVE => messages::op_receive(t, log),
-        op::PARK => {
-            let own = t;
-            messages::op_park(own, log)
-        }
+        op::PARK => messages::op_park(t, log),
         op::QUEUED => counts::op_queued(t, log),
         op::REVOKE => channels::op_revoke(t, log),
         op::REGISTER => {
@@ -67,9 +64,15 @@ pub fn apply(op: u8, t: Tables, log: &[u8]) -> Outcome
         op::TASK_END => mints::op_task_end(t, log),
         op::IRQ_MINT => mints::op_irq_mint(t, log),
         op::IRQ_LOOKUP => mints::op_irq_lookup(t, log),
-        op::SPAWN => joined_steps::op_spawn(t, log),
+        op::SPAWN => {
+            let own = t;
+            joined_steps::op_spawn(own, log)
+        }
         op::LEAVE => joined_steps::op_leave(t, log),
-        op::GIVE => joined_steps::op_give(t, log),
+        op::GIVE => {
+            let own = t;
+            joined_steps::op_give(own, log)
+        }
         op::COUNTS => counts::op_counts(t),
         _ => unknown(t),
     }

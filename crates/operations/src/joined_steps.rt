@@ -10,29 +10,43 @@ use crate::operands::index_at;
 use logread::list_words;
 
 // 24.
-pub fn op_spawn(t: Tables, log: &[u8]) -> Outcome
+pub fn op_spawn(mut t: Tables, log: &[u8]) -> Outcome
     requires { ⌜ Sound (t .channels) ⌝ }
     ensures { λ r. ⌜ r ≡ packed (spawnDone (now (log .entry)) t) ⌝ }
 {
     let words = list_words(log, 4);
     let spawned = joined::inner::spawn(t.channels, t.rows, index_at(log, 3), &words);
     let answer = spawned.answer;
-    t.with_both(spawned.channels, spawned.rows, answer.shown())
+    let channels = spawned.channels;
+    let rows = spawned.rows;
+    t.channels = channels;
+    t.rows = rows;
+    Outcome {
+        shown: answer.shown(),
+        tables: t,
+    }
 }
 
 // 25.
-pub fn op_leave(t: Tables, log: &[u8]) -> Outcome
+pub fn op_leave(mut t: Tables, log: &[u8]) -> Outcome
     requires { ⌜ Sound (t .channels) ⌝ }
     ensures { λ r. ⌜ r ≡ packed (leaveDone (now (log .entry)) t) ⌝ }
 {
     let left = joined::inner::leave(t.channels, t.rows, index_at(log, 3));
     let answer = left.answer;
     let waiters = left.waiters;
-    t.with_both(left.channels, left.rows, answer.shown(waiters))
+    let channels = left.channels;
+    let rows = left.rows;
+    t.channels = channels;
+    t.rows = rows;
+    Outcome {
+        shown: answer.shown(waiters),
+        tables: t,
+    }
 }
 
 // 26.
-pub fn op_give(t: Tables, log: &[u8]) -> Outcome
+pub fn op_give(mut t: Tables, log: &[u8]) -> Outcome
     requires { ⌜ Sound (t .channels) ⌝ }
     ensures { λ r. ⌜ r ≡ packed (giveDone (now (log .entry)) t) ⌝ }
 {
@@ -40,5 +54,12 @@ pub fn op_give(t: Tables, log: &[u8]) -> Outcome
     let slot = index_at(log, 4);
     let given = joined::inner::give(t.channels, t.rows, row, slot, id_at(log, 5));
     let answer = given.answer;
-    t.with_both(given.channels, given.rows, answer.shown())
+    let channels = given.channels;
+    let rows = given.rows;
+    t.channels = channels;
+    t.rows = rows;
+    Outcome {
+        shown: answer.shown(),
+        tables: t,
+    }
 }

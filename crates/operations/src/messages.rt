@@ -10,31 +10,46 @@ use crate::operands::message_at;
 use crate::operands::task_at;
 
 // 2.
-pub fn op_send(t: Tables, log: &[u8]) -> Outcome
+pub fn op_send(mut t: Tables, log: &[u8]) -> Outcome
     requires { ⌜ Sound (t .channels) ⌝ }
     ensures { λ r. ⌜ r ≡ packed (sendDone (now (log .entry)) t) ⌝ }
 {
     let sent = ipc_queue::inner::send(t.channels, id_at(log, 3), message_at(log, 7));
     let answer = sent.answer;
-    t.with_channels(sent.table, answer.shown())
+    let channels = sent.table;
+    t.channels = channels;
+    Outcome {
+        shown: answer.shown(),
+        tables: t,
+    }
 }
 
 // 3.
-pub fn op_receive(t: Tables, log: &[u8]) -> Outcome
+pub fn op_receive(mut t: Tables, log: &[u8]) -> Outcome
     requires { ⌜ Sound (t .channels) ⌝ }
     ensures { λ r. ⌜ r ≡ packed (receiveDone (now (log .entry)) t) ⌝ }
 {
     let received = ipc_queue::inner::try_recv(t.channels, id_at(log, 3));
     let answer = received.answer;
-    t.with_channels(received.table, answer.shown())
+    let channels = received.table;
+    t.channels = channels;
+    Outcome {
+        shown: answer.shown(),
+        tables: t,
+    }
 }
 
 // 4.
-pub fn op_park(t: Tables, log: &[u8]) -> Outcome
+pub fn op_park(mut t: Tables, log: &[u8]) -> Outcome
     requires { ⌜ Sound (t .channels) ⌝ }
     ensures { λ r. ⌜ r ≡ packed (parkDone (now (log .entry)) t) ⌝ }
 {
     let parked = ipc_queue::inner::park(t.channels, id_at(log, 3), task_at(log, 7));
     let answer = parked.answer;
-    t.with_channels(parked.table, answer.shown())
+    let channels = parked.table;
+    t.channels = channels;
+    Outcome {
+        shown: answer.shown(),
+        tables: t,
+    }
 }

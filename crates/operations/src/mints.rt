@@ -8,12 +8,17 @@ use crate::operands::id_at;
 use logread::u32_at;
 
 // 19.
-pub fn op_task_mint(t: Tables, log: &[u8]) -> Outcome
+pub fn op_task_mint(mut t: Tables, log: &[u8]) -> Outcome
     ensures { λ r. ⌜ r ≡ packed (taskMintDone (now (log .entry)) t) ⌝ }
 {
     let minted = taskcap::mint(t.tasks, u32_at(log, 3));
     let answer = minted.answer;
-    t.with_tasks(minted.table, answer.shown())
+    let tasks = minted.table;
+    t.tasks = tasks;
+    Outcome {
+        shown: answer.shown(),
+        tables: t,
+    }
 }
 
 // 20.
@@ -28,20 +33,30 @@ pub fn op_task_lookup(t: Tables, log: &[u8]) -> Outcome
 }
 
 // 21: nothing refuses it.
-pub fn op_task_end(t: Tables, log: &[u8]) -> Outcome
+pub fn op_task_end(mut t: Tables, log: &[u8]) -> Outcome
     ensures { λ r. ⌜ r ≡ packed (taskEndDone (now (log .entry)) t) ⌝ }
 {
     let ended = taskcap::revoke_task(t.tasks, u32_at(log, 3));
-    t.with_tasks(ended.table, taskcap::revoke_shown(ended.count))
+    let tasks = ended.table;
+    t.tasks = tasks;
+    Outcome {
+        shown: taskcap::revoke_shown(ended.count),
+        tables: t,
+    }
 }
 
 // 22.
-pub fn op_irq_mint(t: Tables, log: &[u8]) -> Outcome
+pub fn op_irq_mint(mut t: Tables, log: &[u8]) -> Outcome
     ensures { λ r. ⌜ r ≡ packed (irqMintDone (now (log .entry)) t) ⌝ }
 {
     let minted = irqcap::mint(t.irqs, u32_at(log, 3));
     let answer = minted.answer;
-    t.with_irqs(minted.table, answer.shown())
+    let irqs = minted.table;
+    t.irqs = irqs;
+    Outcome {
+        shown: answer.shown(),
+        tables: t,
+    }
 }
 
 // 23.

@@ -31,28 +31,38 @@ pub fn op_holds(t: Tables, log: &[u8]) -> Outcome
 }
 
 // 15.
-pub fn op_seed(t: Tables, log: &[u8]) -> Outcome
+pub fn op_seed(mut t: Tables, log: &[u8]) -> Outcome
     ensures { λ r. ⌜ r ≡ packed (seedDone (now (log .entry)) t) ⌝ }
 {
     let words = list_words(log, 4);
     let seeded = capslots::seed(t.rows, index_at(log, 3), &words);
     let answer = seeded.answer;
-    t.with_rows(seeded.table, answer.shown())
+    let rows = seeded.table;
+    t.rows = rows;
+    Outcome {
+        shown: answer.shown(),
+        tables: t,
+    }
 }
 
 // 16.
-pub fn op_install(t: Tables, log: &[u8]) -> Outcome
+pub fn op_install(mut t: Tables, log: &[u8]) -> Outcome
     ensures { λ r. ⌜ r ≡ packed (installDone (now (log .entry)) t) ⌝ }
 {
     let row = index_at(log, 3);
     let slot = index_at(log, 4);
     let installed = capslots::install(t.rows, row, slot, id_at(log, 5));
     let answer = installed.answer;
-    t.with_rows(installed.table, answer.shown())
+    let rows = installed.table;
+    t.rows = rows;
+    Outcome {
+        shown: answer.shown(),
+        tables: t,
+    }
 }
 
 // 17.
-pub fn op_transfer(t: Tables, log: &[u8]) -> Outcome
+pub fn op_transfer(mut t: Tables, log: &[u8]) -> Outcome
     ensures { λ r. ⌜ r ≡ packed (transferDone (now (log .entry)) t) ⌝ }
 {
     let from_row = index_at(log, 3);
@@ -61,14 +71,24 @@ pub fn op_transfer(t: Tables, log: &[u8]) -> Outcome
     let to_slot = index_at(log, 6);
     let transferred = capslots::transfer(t.rows, from_row, from_slot, to_row, to_slot);
     let answer = transferred.answer;
-    t.with_rows(transferred.table, answer.shown())
+    let rows = transferred.table;
+    t.rows = rows;
+    Outcome {
+        shown: answer.shown(),
+        tables: t,
+    }
 }
 
 // 18: nothing refuses it.
-pub fn op_drain(t: Tables, log: &[u8]) -> Outcome
+pub fn op_drain(mut t: Tables, log: &[u8]) -> Outcome
     ensures { λ r. ⌜ r ≡ packed (drainDone (now (log .entry)) t) ⌝ }
 {
     let drained = capslots::drain(t.rows, index_at(log, 3));
     let slots = drained.slots;
-    t.with_rows(drained.table, capslots::drain_shown(slots))
+    let rows = drained.table;
+    t.rows = rows;
+    Outcome {
+        shown: capslots::drain_shown(slots),
+        tables: t,
+    }
 }

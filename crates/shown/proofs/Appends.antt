@@ -33,12 +33,9 @@ pushes-append n vs (w ∷ ws) h =
     ∙ pushes-append n (vs ++ (w ∷ [])) ws (let e = length-one-more vs w in omega arith)
     ∙ ap (shown n) (append-assoc vs (w ∷ []) ws)
 
--- from none on: one list, and four one after the other
-module _ {n : ℕ} {s r : Shown} (none : s ≡ shown n []) where
-  pub one-pushed : (vs : List ℕ) → Few vs → r ≡ pushedAll s vs → r ≡ shown n vs
-  one-pushed vs h e = e ∙ ap (λ (x : Shown). pushedAll x vs) none ∙ pushes-append n [] vs (omega arith)
-
-  pub four-pushed : {x y z : Shown} (a b c d : List ℕ) → Few (a ++ b ++ c ++ d)
+-- four lists, one after the other, from none on
+module _ {n : ℕ} {s x y z r : Shown} (none : s ≡ shown n []) where
+  pub four-pushed : (a b c d : List ℕ) → Few (a ++ b ++ c ++ d)
       → x ≡ pushedAll s a → y ≡ pushedAll x b → z ≡ pushedAll y c → r ≡ pushedAll z d → r ≡ shown n (a ++ b ++ c ++ d)
   four-pushed a b c d h ea eb ec ed =
       let l : length a + length b + length c + length d ≤ 12 = simp length-append at h in

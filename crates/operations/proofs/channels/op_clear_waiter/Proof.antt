@@ -14,16 +14,13 @@ clear-waiter-requires c κs = search needs
 shown-requires : tie.Need-shown-requires
 shown-requires c κs = search needs
 
-with-channels-requires : tie.Need-with-channels-requires
-with-channels-requires c κs = search needs
-
 returns : tie.Need-returns
 unfolding clearDone
 returns c =
     rw (← c .before .before .before .task-at .ensures)
-    (packs (afterClear (c .before .before .before .before .before .args .t)) (c .before .before .clear-waiter .ensures) (c .before .shown .ensures) (c .with-channels .ensures))
+    (packs (afterClear (c .before .before .before .before .before .args .t)) (c .before .before .clear-waiter .ensures) (c .shown .ensures))
 
 pub op-clear-waiter-spec : {M : Type 1} → statement M
 op-clear-waiter-spec =
     tie.close
-    (tie.spec task-at-requires clear-waiter-requires shown-requires with-channels-requires returns)
+    (tie.spec task-at-requires clear-waiter-requires shown-requires returns)

@@ -14,16 +14,13 @@ create-requires c κs = search needs
 shown-requires : tie.Need-shown-requires
 shown-requires c κs = search needs
 
-with-channels-requires : tie.Need-with-channels-requires
-with-channels-requires c κs = search needs
-
 returns : tie.Need-returns
 unfolding createDone
 returns c =
     rw (← c .before .before .before .byte-at .ensures)
-    (packs (afterCreate (c .before .before .before .before .before .args .t)) (c .before .before .create .ensures) (c .before .shown .ensures) (c .with-channels .ensures))
+    (packs (afterCreate (c .before .before .before .before .before .args .t)) (c .before .before .create .ensures) (c .shown .ensures))
 
 pub op-create-spec : {M : Type 1} → statement M
 op-create-spec =
     tie.close
-    (tie.spec byte-at-requires create-requires shown-requires with-channels-requires returns)
+    (tie.spec byte-at-requires create-requires shown-requires returns)

@@ -14,16 +14,13 @@ revoke-channel-requires c κs = search needs
 shown-requires : tie.Need-shown-requires
 shown-requires c κs = search needs
 
-with-channels-requires : tie.Need-with-channels-requires
-with-channels-requires c κs = search needs
-
 returns : tie.Need-returns
 unfolding revokeDone
 returns c =
     rw (← c .before .before .before .id-at .ensures)
-    (packs (afterRevoke (c .before .before .before .before .before .args .t)) (c .before .before .revoke-channel .ensures) (c .before .shown .ensures) (c .with-channels .ensures))
+    (packs (afterRevoke (c .before .before .before .before .before .args .t)) (c .before .before .revoke-channel .ensures) (c .shown .ensures))
 
 pub op-revoke-spec : {M : Type 1} → statement M
 op-revoke-spec =
     tie.close
-    (tie.spec id-at-requires revoke-channel-requires shown-requires with-channels-requires returns)
+    (tie.spec id-at-requires revoke-channel-requires shown-requires returns)

@@ -1,5 +1,4 @@
 -- `operations::counts::op_holders` meets its contract. Assumes nothing.
-use mathlib.Core.Path.{refl}
 use Rattle.operations.specs.Channels.{holdersDone, afterHolders}
 use Rattle.operations.proofs.Packs.{packs}
 use borrow.Author.Needs.{needs}
@@ -19,7 +18,7 @@ returns : tie.Need-returns
 unfolding holdersDone
 returns c =
     rw (← c .before .before .id-at .ensures)
-    (packs (afterHolders (c .before .before .before .before .args .t)) (c .before .send-holders .ensures) (c .shown .ensures) refl)
+    (packs (afterHolders (c .before .before .before .before .args .t)) (c .before .send-holders .ensures) (c .shown .ensures))
 
 pub op-holders-spec : {M : Type 1} → statement M
 op-holders-spec = tie.close (tie.spec id-at-requires send-holders-requires shown-requires returns)

@@ -11,14 +11,11 @@ note-authority-refusal-requires c κs = search needs
 shown-requires : tie.Need-shown-requires
 shown-requires c κs = search needs
 
-with-channels-requires : tie.Need-with-channels-requires
-with-channels-requires c κs = search needs
-
 returns : tie.Need-returns
 unfolding noteAuthorityDone
-returns c = packs (afterNote (c .before .before .before .args .t)) (c .before .before .note-authority-refusal .ensures) (c .before .shown .ensures) (c .with-channels .ensures)
+returns c = packs (afterNote (c .before .before .before .args .t)) (c .before .before .note-authority-refusal .ensures) (c .shown .ensures)
 
 pub op-note-authority-spec : {M : Type 1} → statement M
 op-note-authority-spec =
     tie.close
-    (tie.spec note-authority-refusal-requires shown-requires with-channels-requires returns)
+    (tie.spec note-authority-refusal-requires shown-requires returns)

@@ -11,13 +11,10 @@ note-state-refusal-requires c κs = search needs
 shown-requires : tie.Need-shown-requires
 shown-requires c κs = search needs
 
-with-channels-requires : tie.Need-with-channels-requires
-with-channels-requires c κs = search needs
-
 returns : tie.Need-returns
 unfolding noteStateDone
-returns c = packs (afterNote (c .before .before .before .args .t)) (c .before .before .note-state-refusal .ensures) (c .before .shown .ensures) (c .with-channels .ensures)
+returns c = packs (afterNote (c .before .before .before .args .t)) (c .before .before .note-state-refusal .ensures) (c .shown .ensures)
 
 pub op-note-state-spec : {M : Type 1} → statement M
 op-note-state-spec =
-    tie.close (tie.spec note-state-refusal-requires shown-requires with-channels-requires returns)
+    tie.close (tie.spec note-state-refusal-requires shown-requires returns)

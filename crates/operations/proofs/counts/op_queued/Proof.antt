@@ -1,5 +1,4 @@
 -- `operations::counts::op_queued` meets its contract. Assumes nothing.
-use mathlib.Core.Path.{refl}
 use Rattle.operations.specs.Channels.{queuedDone, afterQueued}
 use Rattle.operations.proofs.Packs.{packs}
 use borrow.Author.Needs.{needs}
@@ -19,7 +18,7 @@ returns : tie.Need-returns
 unfolding queuedDone
 returns c =
     rw (← c .before .before .id-at .ensures)
-    (packs (afterQueued (c .before .before .before .before .args .t)) (c .before .queued .ensures) (c .shown .ensures) refl)
+    (packs (afterQueued (c .before .before .before .before .args .t)) (c .before .queued .ensures) (c .shown .ensures))
 
 pub op-queued-spec : {M : Type 1} → statement M
 op-queued-spec = tie.close (tie.spec id-at-requires queued-requires shown-requires returns)

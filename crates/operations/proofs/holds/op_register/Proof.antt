@@ -17,14 +17,11 @@ register-holds-requires c κs = search needs
 shown-requires : tie.Need-shown-requires
 shown-requires c κs = search needs
 
-with-channels-requires : tie.Need-with-channels-requires
-with-channels-requires c κs = search needs
-
 returns : tie.Need-returns
 unfolding registerDone
 returns c =
     rw (← c .before .before .before .before .list-words .ensures)
-    (packs (afterRegister (c .before .before .before .before .before .before .args .t)) (c .before .before .register-holds .ensures) (c .before .shown .ensures) (c .with-channels .ensures))
+    (packs (afterRegister (c .before .before .before .before .before .before .args .t)) (c .before .before .register-holds .ensures) (c .shown .ensures))
 
 pub op-register-spec : {M : Type 1} → statement M
 op-register-spec =
@@ -34,5 +31,4 @@ op-register-spec =
     slice-aggregate-register-holds
     register-holds-requires
     shown-requires
-    with-channels-requires
     returns)

@@ -14,14 +14,11 @@ release-holds-requires c κs = search needs
 shown-requires : tie.Need-shown-requires
 shown-requires c κs = search needs
 
-with-channels-requires : tie.Need-with-channels-requires
-with-channels-requires c κs = search needs
-
 returns : tie.Need-returns
 unfolding releaseDone
 returns c =
     rw (← c .before .before .before .before .list-slots .ensures)
-    (packs (afterRelease (c .before .before .before .before .before .before .args .t)) (c .before .before .before .release-holds .ensures) (c .before .shown .ensures) (c .with-channels .ensures))
+    (packs (afterRelease (c .before .before .before .before .before .before .args .t)) (c .before .before .before .release-holds .ensures) (c .shown .ensures))
 
 pub op-release-spec : {M : Type 1} → statement M
 op-release-spec =
@@ -30,5 +27,4 @@ op-release-spec =
     list-slots-requires
     release-holds-requires
     shown-requires
-    with-channels-requires
     returns)

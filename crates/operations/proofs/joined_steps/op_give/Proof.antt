@@ -20,14 +20,11 @@ give-requires c κs = search needs
 shown-requires : tie.Need-shown-requires
 shown-requires c κs = search needs
 
-with-both-requires : tie.Need-with-both-requires
-with-both-requires c κs = search needs
-
 returns : tie.Need-returns
 unfolding giveDone
 returns c =
-    rw (← c .before .before .before .id-at .ensures, ← c .before .before .before .before .index-at2 .ensures, ← c .before .before .before .before .before .index-at .ensures)
-    (packs (afterGive (c .before .before .before .before .before .before .before .args .t)) (c .before .before .give .ensures) (c .before .shown .ensures) (c .with-both .ensures))
+    rw (← c .before .before .before .before .id-at .ensures, ← c .before .before .before .before .before .index-at2 .ensures, ← c .before .before .before .before .before .before .index-at .ensures)
+    (packs (afterGive (c .before .before .before .before .before .before .before .before .args .t)) (c .before .before .before .give .ensures) (c .shown .ensures))
 
 pub op-give-spec : {M : Type 1} → statement M
 op-give-spec =
@@ -38,5 +35,4 @@ op-give-spec =
     id-at-requires
     give-requires
     shown-requires
-    with-both-requires
     returns)

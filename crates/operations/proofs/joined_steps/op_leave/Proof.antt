@@ -14,15 +14,12 @@ leave-requires c κs = search needs
 shown-requires : tie.Need-shown-requires
 shown-requires c κs = search needs
 
-with-both-requires : tie.Need-with-both-requires
-with-both-requires c κs = search needs
-
 returns : tie.Need-returns
 unfolding leaveDone
 returns c =
-    rw (← c .before .before .before .before .index-at .ensures)
-    (packs (afterLeave (c .before .before .before .before .before .before .args .t)) (c .before .before .before .leave .ensures) (c .before .shown .ensures) (c .with-both .ensures))
+    rw (← c .before .before .before .before .before .index-at .ensures)
+    (packs (afterLeave (c .before .before .before .before .before .before .before .args .t)) (c .before .before .before .before .leave .ensures) (c .shown .ensures))
 
 pub op-leave-spec : {M : Type 1} → statement M
 op-leave-spec =
-    tie.close (tie.spec index-at-requires leave-requires shown-requires with-both-requires returns)
+    tie.close (tie.spec index-at-requires leave-requires shown-requires returns)

@@ -20,14 +20,11 @@ spawn-requires c κs = search needs
 shown-requires : tie.Need-shown-requires
 shown-requires c κs = search needs
 
-with-both-requires : tie.Need-with-both-requires
-with-both-requires c κs = search needs
-
 returns : tie.Need-returns
 unfolding spawnDone
 returns c =
-    rw (← c .before .before .before .before .index-at .ensures, ← c .before .before .before .before .before .list-words .ensures)
-    (packs (afterSpawn (c .before .before .before .before .before .before .before .args .t)) (c .before .before .spawn .ensures) (c .before .shown .ensures) (c .with-both .ensures))
+    rw (← c .before .before .before .before .before .index-at .ensures, ← c .before .before .before .before .before .before .list-words .ensures)
+    (packs (afterSpawn (c .before .before .before .before .before .before .before .before .args .t)) (c .before .before .before .spawn .ensures) (c .shown .ensures))
 
 pub op-spawn-spec : {M : Type 1} → statement M
 op-spawn-spec =
@@ -38,5 +35,4 @@ op-spawn-spec =
     slice-aggregate-spawn
     spawn-requires
     shown-requires
-    with-both-requires
     returns)

@@ -17,14 +17,11 @@ park-requires c κs = search needs
 shown-requires : tie.Need-shown-requires
 shown-requires c κs = search needs
 
-with-channels-requires : tie.Need-with-channels-requires
-with-channels-requires c κs = search needs
-
 returns : tie.Need-returns
 unfolding parkDone
 returns c =
     rw (← c .before .before .before .task-at .ensures, ← c .before .before .before .before .id-at .ensures)
-    (packs (afterPark (c .before .before .before .before .before .before .args .t)) (c .before .before .park .ensures) (c .before .shown .ensures) (c .with-channels .ensures))
+    (packs (afterPark (c .before .before .before .before .before .before .args .t)) (c .before .before .park .ensures) (c .shown .ensures))
 
 pub op-park-spec : {M : Type 1} → statement M
 op-park-spec =
@@ -34,5 +31,4 @@ op-park-spec =
     task-at-requires
     park-requires
     shown-requires
-    with-channels-requires
     returns)

@@ -14,16 +14,13 @@ try-recv-requires c κs = search needs
 shown-requires : tie.Need-shown-requires
 shown-requires c κs = search needs
 
-with-channels-requires : tie.Need-with-channels-requires
-with-channels-requires c κs = search needs
-
 returns : tie.Need-returns
 unfolding receiveDone
 returns c =
     rw (← c .before .before .before .id-at .ensures)
-    (packs (afterReceive (c .before .before .before .before .before .args .t)) (c .before .before .try-recv .ensures) (c .before .shown .ensures) (c .with-channels .ensures))
+    (packs (afterReceive (c .before .before .before .before .before .args .t)) (c .before .before .try-recv .ensures) (c .shown .ensures))
 
 pub op-receive-spec : {M : Type 1} → statement M
 op-receive-spec =
     tie.close
-    (tie.spec id-at-requires try-recv-requires shown-requires with-channels-requires returns)
+    (tie.spec id-at-requires try-recv-requires shown-requires returns)

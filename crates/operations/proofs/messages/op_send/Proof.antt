@@ -17,14 +17,11 @@ send-requires c κs = search needs
 shown-requires : tie.Need-shown-requires
 shown-requires c κs = search needs
 
-with-channels-requires : tie.Need-with-channels-requires
-with-channels-requires c κs = search needs
-
 returns : tie.Need-returns
 unfolding sendDone
 returns c =
     rw (← c .before .before .before .message-at .ensures, ← c .before .before .before .before .id-at .ensures)
-    (packs (afterSend (c .before .before .before .before .before .before .args .t)) (c .before .before .send .ensures) (c .before .shown .ensures) (c .with-channels .ensures))
+    (packs (afterSend (c .before .before .before .before .before .before .args .t)) (c .before .before .send .ensures) (c .shown .ensures))
 
 pub op-send-spec : {M : Type 1} → statement M
 op-send-spec =
@@ -34,5 +31,4 @@ op-send-spec =
     message-at-requires
     send-requires
     shown-requires
-    with-channels-requires
     returns)

@@ -14,15 +14,12 @@ mint-requires c κs = search needs
 shown-requires : tie.Need-shown-requires
 shown-requires c κs = search needs
 
-with-irqs-requires : tie.Need-with-irqs-requires
-with-irqs-requires c κs = search needs
-
 returns : tie.Need-returns
 unfolding irqMintDone
 returns c =
     rw (← c .before .before .before .u32-at .ensures)
-    (packs (afterIrqMint (c .before .before .before .before .before .args .t)) (c .before .before .mint .ensures) (c .before .shown .ensures) (c .with-irqs .ensures))
+    (packs (afterIrqMint (c .before .before .before .before .before .args .t)) (c .before .before .mint .ensures) (c .shown .ensures))
 
 pub op-irq-mint-spec : {M : Type 1} → statement M
 op-irq-mint-spec =
-    tie.close (tie.spec u32-at-requires mint-requires shown-requires with-irqs-requires returns)
+    tie.close (tie.spec u32-at-requires mint-requires shown-requires returns)

@@ -14,14 +14,11 @@ revoke-task-requires c κs = search needs
 revoke-shown-requires : tie.Need-revoke-shown-requires
 revoke-shown-requires c κs = search needs
 
-with-tasks-requires : tie.Need-with-tasks-requires
-with-tasks-requires c κs = search needs
-
 returns : tie.Need-returns
 unfolding taskEndDone
 returns c =
     rw (← c .before .before .before .u32-at .ensures)
-    (packs (afterTaskEnd (c .before .before .before .before .before .args .t)) (c .before .before .revoke-task .ensures) (c .before .revoke-shown .ensures) (c .with-tasks .ensures))
+    (packs (afterTaskEnd (c .before .before .before .before .before .args .t)) (c .before .before .revoke-task .ensures) (c .revoke-shown .ensures))
 
 pub op-task-end-spec : {M : Type 1} → statement M
 op-task-end-spec =
@@ -30,5 +27,4 @@ op-task-end-spec =
     u32-at-requires
     revoke-task-requires
     revoke-shown-requires
-    with-tasks-requires
     returns)

@@ -14,15 +14,12 @@ mint-requires c κs = search needs
 shown-requires : tie.Need-shown-requires
 shown-requires c κs = search needs
 
-with-tasks-requires : tie.Need-with-tasks-requires
-with-tasks-requires c κs = search needs
-
 returns : tie.Need-returns
 unfolding taskMintDone
 returns c =
     rw (← c .before .before .before .u32-at .ensures)
-    (packs (afterTaskMint (c .before .before .before .before .before .args .t)) (c .before .before .mint .ensures) (c .before .shown .ensures) (c .with-tasks .ensures))
+    (packs (afterTaskMint (c .before .before .before .before .before .args .t)) (c .before .before .mint .ensures) (c .shown .ensures))
 
 pub op-task-mint-spec : {M : Type 1} → statement M
 op-task-mint-spec =
-    tie.close (tie.spec u32-at-requires mint-requires shown-requires with-tasks-requires returns)
+    tie.close (tie.spec u32-at-requires mint-requires shown-requires returns)

@@ -14,16 +14,13 @@ drain-requires c κs = search needs
 drain-shown-requires : tie.Need-drain-shown-requires
 drain-shown-requires c κs = search needs
 
-with-rows-requires : tie.Need-with-rows-requires
-with-rows-requires c κs = search needs
-
 returns : tie.Need-returns
 unfolding drainDone
 returns c =
     rw (← c .before .before .before .before .index-at .ensures)
-    (packs (afterDrain (c .before .before .before .before .before .before .args .t)) (c .before .before .before .drain .ensures) (c .before .drain-shown .ensures) (c .with-rows .ensures))
+    (packs (afterDrain (c .before .before .before .before .before .before .args .t)) (c .before .before .before .drain .ensures) (c .drain-shown .ensures))
 
 pub op-drain-spec : {M : Type 1} → statement M
 op-drain-spec =
     tie.close
-    (tie.spec index-at-requires drain-requires drain-shown-requires with-rows-requires returns)
+    (tie.spec index-at-requires drain-requires drain-shown-requires returns)

@@ -1,5 +1,4 @@
 -- `operations::rows::op_get` meets its contract. Assumes nothing.
-use mathlib.Core.Path.{refl}
 use Rattle.operations.specs.Rows.{getDone, afterGet}
 use Rattle.operations.proofs.Packs.{packs}
 use borrow.Author.Needs.{needs}
@@ -22,7 +21,7 @@ returns : tie.Need-returns
 unfolding getDone
 returns c =
     rw (← c .before .before .index-at2 .ensures, ← c .before .before .before .index-at .ensures)
-    (packs (afterGet (c .before .before .before .before .before .args .t)) (c .before .get .ensures) (c .shown .ensures) refl)
+    (packs (afterGet (c .before .before .before .before .before .args .t)) (c .before .get .ensures) (c .shown .ensures))
 
 pub op-get-spec : {M : Type 1} → statement M
 op-get-spec =

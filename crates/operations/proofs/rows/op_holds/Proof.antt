@@ -1,5 +1,4 @@
 -- `operations::rows::op_holds` meets its contract. Assumes nothing.
-use mathlib.Core.Path.{refl}
 use Rattle.operations.specs.Rows.{holdsDone, afterHolds}
 use Rattle.operations.proofs.Packs.{packs}
 use borrow.Author.Needs.{needs}
@@ -22,7 +21,7 @@ returns : tie.Need-returns
 unfolding holdsDone
 returns c =
     rw (← c .before .before .id-at .ensures, ← c .before .before .before .index-at .ensures)
-    (packs (afterHolds (c .before .before .before .before .before .args .t)) (c .before .holds .ensures) (c .holds-shown .ensures) refl)
+    (packs (afterHolds (c .before .before .before .before .before .args .t)) (c .before .holds .ensures) (c .holds-shown .ensures))
 
 pub op-holds-spec : {M : Type 1} → statement M
 op-holds-spec =

@@ -20,14 +20,11 @@ install-requires c κs = search needs
 shown-requires : tie.Need-shown-requires
 shown-requires c κs = search needs
 
-with-rows-requires : tie.Need-with-rows-requires
-with-rows-requires c κs = search needs
-
 returns : tie.Need-returns
 unfolding installDone
 returns c =
     rw (← c .before .before .before .id-at .ensures, ← c .before .before .before .before .index-at2 .ensures, ← c .before .before .before .before .before .index-at .ensures)
-    (packs (afterInstall (c .before .before .before .before .before .before .before .args .t)) (c .before .before .install .ensures) (c .before .shown .ensures) (c .with-rows .ensures))
+    (packs (afterInstall (c .before .before .before .before .before .before .before .args .t)) (c .before .before .install .ensures) (c .shown .ensures))
 
 pub op-install-spec : {M : Type 1} → statement M
 op-install-spec =
@@ -38,5 +35,4 @@ op-install-spec =
     id-at-requires
     install-requires
     shown-requires
-    with-rows-requires
     returns)

@@ -20,14 +20,11 @@ seed-requires c κs = search needs
 shown-requires : tie.Need-shown-requires
 shown-requires c κs = search needs
 
-with-rows-requires : tie.Need-with-rows-requires
-with-rows-requires c κs = search needs
-
 returns : tie.Need-returns
 unfolding seedDone
 returns c =
     rw (← c .before .before .before .before .index-at .ensures, ← c .before .before .before .before .before .list-words .ensures)
-    (packs (afterSeed (c .before .before .before .before .before .before .before .args .t)) (c .before .before .seed .ensures) (c .before .shown .ensures) (c .with-rows .ensures))
+    (packs (afterSeed (c .before .before .before .before .before .before .before .args .t)) (c .before .before .seed .ensures) (c .shown .ensures))
 
 pub op-seed-spec : {M : Type 1} → statement M
 op-seed-spec =
@@ -38,5 +35,4 @@ op-seed-spec =
     slice-aggregate-seed
     seed-requires
     shown-requires
-    with-rows-requires
     returns)

@@ -23,14 +23,11 @@ transfer-requires c κs = search needs
 shown-requires : tie.Need-shown-requires
 shown-requires c κs = search needs
 
-with-rows-requires : tie.Need-with-rows-requires
-with-rows-requires c κs = search needs
-
 returns : tie.Need-returns
 unfolding transferDone
 returns c =
     rw (← c .before .before .before .index-at4 .ensures, ← c .before .before .before .before .index-at3 .ensures, ← c .before .before .before .before .before .index-at2 .ensures, ← c .before .before .before .before .before .before .index-at .ensures)
-    (packs (afterTransfer (c .before .before .before .before .before .before .before .before .args .t)) (c .before .before .transfer .ensures) (c .before .shown .ensures) (c .with-rows .ensures))
+    (packs (afterTransfer (c .before .before .before .before .before .before .before .before .args .t)) (c .before .before .transfer .ensures) (c .shown .ensures))
 
 pub op-transfer-spec : {M : Type 1} → statement M
 op-transfer-spec =
@@ -42,5 +39,4 @@ op-transfer-spec =
     index-at-requires-4
     transfer-requires
     shown-requires
-    with-rows-requires
     returns)
