@@ -1,12 +1,12 @@
 // `bind`: the entry's packet pool and four wanted indices, then the held list.
 use crate::lending;
 use crate::op;
-use crate::operands::at;
-use crate::operands::byte;
-use crate::operands::refusals;
-use crate::operands::rest;
-use crate::print;
 use crate::wrap;
+use edgescript::operands::at;
+use edgescript::operands::byte;
+use edgescript::operands::refusals;
+use edgescript::operands::rest;
+use edgescript::print;
 use manifest::AgentEntry;
 use manifest::BindAnswer;
 use manifest::Binding;

@@ -1,15 +1,15 @@
 // The channel table's calls, by the numbers of document 01's log. Each function makes a call, has its answer shown and hands the table on.
-use crate::broken;
 use crate::lending;
 use crate::op;
-use crate::operands::at;
-use crate::operands::four;
-use crate::operands::id;
-use crate::operands::message;
-use crate::operands::rest;
-use crate::operands::size;
-use crate::operands::task;
-use crate::print;
+use edgescript::broken;
+use edgescript::operands::at;
+use edgescript::operands::four;
+use edgescript::operands::id;
+use edgescript::operands::message;
+use edgescript::operands::rest;
+use edgescript::operands::size;
+use edgescript::operands::task;
+use edgescript::print;
 use ipc_rules::state::Table;
 use logread::op as log;
 

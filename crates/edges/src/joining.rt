@@ -1,11 +1,11 @@
 // The joined steps, by the numbers of document 01's log. Each function shows an answer and hands both tables on.
 use crate::channels;
-use crate::operands::id;
-use crate::operands::rest;
-use crate::operands::size;
-use crate::print;
 use crate::rows;
 use capslots::Table as Rows;
+use edgescript::operands::id;
+use edgescript::operands::rest;
+use edgescript::operands::size;
+use edgescript::print;
 use ipc_rules::state::Table as Channels;
 use logread::op;
 

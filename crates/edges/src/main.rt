@@ -1,17 +1,17 @@
 // Tries the calls at their edges, on the compiled code. The script on standard input is made of sentences, and most have a colon and then the
 // numbers of a call: which one, by document 01's operations or by `op`, and its operands. What is printed is the script with the answer in
 // the place of these numbers. What is expected, in the file stdout, is written from document 01.
+use edgescript::operands;
+use edgescript::print;
+use edgescript::script;
+
 mod binding;
-mod broken;
 mod channels;
 mod joining;
 mod lending;
 mod mints;
 mod op;
-mod operands;
-mod print;
 mod rows;
-mod script;
 mod wrap;
 
 // Nothing says that the input ends, and a proved loop has to: no script has as many calls.

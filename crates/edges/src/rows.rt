@@ -1,9 +1,9 @@
 // The capability rows' calls, by the numbers of document 01's log. Each function shows an answer and hands the table on.
-use crate::operands::id;
-use crate::operands::rest;
-use crate::operands::size;
-use crate::print;
 use capslots::Table;
+use edgescript::operands::id;
+use edgescript::operands::rest;
+use edgescript::operands::size;
+use edgescript::print;
 use logread::op;
 
 fn get(t: Table, w: &[u64]) -> Table {

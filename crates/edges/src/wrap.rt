@@ -1,7 +1,7 @@
 // Document 01's edge that no log is long enough for: channel 1 is revoked at once; its ids open nothing through 65,534 more creations,
 // and after the next they open again. One mailbox serves every channel, so each creation takes the first one's ends.
-use crate::print;
 use cap::CapId;
+use edgescript::print;
 use ipc_rules::answers::CreateAnswer;
 use ipc_rules::answers::Creation;
 use ipc_rules::answers::QueuedAnswer;

@@ -1,12 +1,12 @@
--- `edges::script::numbers` meets its contract. The invariant: what was read lies within the room. The measure is the room that is left. Assumes nothing.
+-- `edgescript::script::numbers` meets its contract. The invariant: what was read lies within the room. The measure is the room that is left. Assumes nothing.
 use Prim.Native.Nat.{_-_, _≤_}
 use borrow.Author.Needs.{needs}
 use mathlib.Core.Path.{_≡_}
 use native.Mathlib.Omega.{arith}
 use lib.ListN.{length, length-set}
 use Rattle.io.proofs.Counting.{counts}
-use Rattle.edges.proofs.script.numbers.Statement.{statement}
-use Rattle.edges.proofs.script.numbers.Tie as tie
+use Rattle.edgescript.proofs.script.numbers.Statement.{statement}
+use Rattle.edgescript.proofs.script.numbers.Tie as tie
 
 abbrev Inv-loop : tie.InvT-loop
 Inv-loop room₀ n₀ room n = (n ≤ length room₀) × (length room ≡ length room₀)

@@ -4,7 +4,7 @@ use libc::STDIN_FILENO;
 use libc::STDOUT_FILENO;
 
 // The most numbers that a line has.
-pub(crate) const ROOM: usize = 12;
+pub const ROOM: usize = 12;
 
 // Nothing says that the input ends, and a proved loop has to: no script has as many bytes.
 const MOST_BYTES: u32 = u32::MAX;
@@ -28,7 +28,7 @@ fn copy(c: u8) {
 }
 
 // Copies the text up to the next colon, headings and empty lines with it, and says whether there is one.
-pub(crate) fn call_follows() -> bool {
+pub fn call_follows() -> bool {
     let mut left = MOST_BYTES;
     while left > 0 {
         left -= 1;
@@ -42,6 +42,15 @@ pub(crate) fn call_follows() -> bool {
         }
     }
     false
+}
+
+// One digit more; the greatest number where there is none so great.
+fn with_digit(value: u64, digit: u8) -> u64 {
+    let tens = value % SHIFTED * 10;
+    if tens > u64::MAX - digit as u64 {
+        return u64::MAX;
+    }
+    tens + digit as u64
 }
 
 // A number, and whether the line ended with it.
@@ -63,13 +72,13 @@ fn number() -> Read {
                 last: c != b' ',
             };
         }
-        value = std::num::wrapping_add_u64(value % SHIFTED * 10, (c % 16) as u64);
+        value = with_digit(value, c % 16);
     }
     Read { value, last: false }
 }
 
 // Reads the numbers after the colon, each after a space, for as many as there is room, and says how many there are.
-pub(crate) fn numbers(room: &mut [u64]) -> usize
+pub fn numbers(room: &mut [u64]) -> usize
     ensures { λ r. ⌜ Counts r (now (room .exit)) ⌝ }
 {
     byte();

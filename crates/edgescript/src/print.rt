@@ -4,17 +4,17 @@ use ipc_rules::state::Refusals;
 use libc::STDOUT_FILENO;
 use shown::Shown;
 
-pub(crate) fn value(n: u64) {
+pub fn value(n: u64) {
     io::write_all(STDOUT_FILENO, b" ");
     io::print_decimal(STDOUT_FILENO, n);
 }
 
-pub(crate) fn end() {
+pub fn end() {
     io::write_all(STDOUT_FILENO, b"\n");
 }
 
 // The number, and the values that are shown.
-pub(crate) fn answer(s: Shown) {
+pub fn answer(s: Shown) {
     value(s.number as u64);
     let mut i: usize = 0;
     while i < 12 {
@@ -35,7 +35,7 @@ fn slot(s: Slot) {
     }
 }
 
-pub(crate) fn slots(four: [Slot; 4]) {
+pub fn slots(four: [Slot; 4]) {
     slot(four[0]);
     slot(four[1]);
     slot(four[2]);
@@ -43,7 +43,7 @@ pub(crate) fn slots(four: [Slot; 4]) {
 }
 
 // Authority, full, state.
-pub(crate) fn counts(r: Refusals) {
+pub fn counts(r: Refusals) {
     value(r.authority as u64);
     value(r.full as u64);
     value(r.state as u64);

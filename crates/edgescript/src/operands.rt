@@ -7,7 +7,7 @@ use ipc_rules::state::TaskId;
 
 const PRESENT: u64 = 4294967296;
 
-pub(crate) fn at(w: &[u64], i: usize) -> u64 {
+pub fn at(w: &[u64], i: usize) -> u64 {
     if i < w.len() {
         return w[i];
     }
@@ -15,35 +15,35 @@ pub(crate) fn at(w: &[u64], i: usize) -> u64 {
 }
 
 // The numbers from the i-th on.
-pub(crate) fn rest(w: &[u64], i: usize) -> &[u64] {
+pub fn rest(w: &[u64], i: usize) -> &[u64] {
     if i <= w.len() {
         return &w[i..];
     }
     &w[..0]
 }
 
-pub(crate) fn byte(w: &[u64], i: usize) -> u8 {
+pub fn byte(w: &[u64], i: usize) -> u8 {
     (at(w, i) % 256) as u8
 }
 
-pub(crate) fn short(w: &[u64], i: usize) -> u16 {
+pub fn short(w: &[u64], i: usize) -> u16 {
     (at(w, i) % 65536) as u16
 }
 
-pub(crate) fn long(w: &[u64], i: usize) -> u32 {
+pub fn long(w: &[u64], i: usize) -> u32 {
     (at(w, i) % PRESENT) as u32
 }
 
-pub(crate) fn size(w: &[u64], i: usize) -> usize {
+pub fn size(w: &[u64], i: usize) -> usize {
     at(w, i) as usize
 }
 
-pub(crate) fn id(w: &[u64], i: usize) -> CapId {
+pub fn id(w: &[u64], i: usize) -> CapId {
     CapId { raw: long(w, i) }
 }
 
 // Slot and epoch.
-pub(crate) fn task(w: &[u64]) -> TaskId {
+pub fn task(w: &[u64]) -> TaskId {
     TaskId {
         slot: short(w, 0),
         epoch: short(w, 1),
@@ -51,7 +51,7 @@ pub(crate) fn task(w: &[u64]) -> TaskId {
 }
 
 // Tag, a and b.
-pub(crate) fn message(w: &[u64]) -> Message {
+pub fn message(w: &[u64]) -> Message {
     Message {
         tag: long(w, 0),
         a: at(w, 1),
@@ -60,7 +60,7 @@ pub(crate) fn message(w: &[u64]) -> Message {
 }
 
 // Four slots as words; a word that does not read is vacant.
-pub(crate) fn four(w: &[u64]) -> [Slot; 4] {
+pub fn four(w: &[u64]) -> [Slot; 4] {
     let a = cap::slot_at(w, 0);
     let b = cap::slot_at(w, 1);
     let c = cap::slot_at(w, 2);
@@ -69,7 +69,7 @@ pub(crate) fn four(w: &[u64]) -> [Slot; 4] {
 }
 
 // Authority, full, state.
-pub(crate) fn refusals(w: &[u64]) -> Refusals {
+pub fn refusals(w: &[u64]) -> Refusals {
     Refusals {
         authority: long(w, 0),
         full: long(w, 1),

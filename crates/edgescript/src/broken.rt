@@ -68,7 +68,7 @@ fn mailbox(w: &[u64]) -> Mailbox {
     }
 }
 
-pub(crate) fn set_head(mut t: Table, w: &[u64]) -> Table {
+pub fn set_head(mut t: Table, w: &[u64]) -> Table {
     let z = sizes(w);
     let c = counters(rest(w, 3));
     t.sizes = z;
@@ -76,25 +76,25 @@ pub(crate) fn set_head(mut t: Table, w: &[u64]) -> Table {
     t
 }
 
-pub(crate) fn set_endpoint(mut t: Table, w: &[u64]) -> Table {
+pub fn set_endpoint(mut t: Table, w: &[u64]) -> Table {
     let i = size(w, 0) % MAX_ENDPOINTS;
     t.endpoints[i] = endpoint(rest(w, 1));
     t
 }
 
-pub(crate) fn set_mailbox(mut t: Table, w: &[u64]) -> Table {
+pub fn set_mailbox(mut t: Table, w: &[u64]) -> Table {
     let k = size(w, 0) % MAX_MAILBOXES;
     t.mailboxes[k] = mailbox(rest(w, 1));
     t
 }
 
-pub(crate) fn set_message(mut t: Table, w: &[u64]) -> Table {
+pub fn set_message(mut t: Table, w: &[u64]) -> Table {
     let p = size(w, 0) % MAX_MESSAGES;
     t.messages[p] = operands::message(rest(w, 1));
     t
 }
 
-pub(crate) fn look(next: u16, z: Sizes) {
+pub fn look(next: u16, z: Sizes) {
     print::value(next as u64);
     print::value(z.mailboxes as u64);
     print::value(z.endpoints as u64);

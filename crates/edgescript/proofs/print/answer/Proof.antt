@@ -1,9 +1,9 @@
--- `edges::print::answer` is safe and ends: it makes 12 turns. Assumes nothing.
+-- `edgescript::print::answer` is safe and ends: it makes 12 turns. Assumes nothing.
 use Prim.Native.Nat.{_-_, _≤_}
 use borrow.Author.Needs.{needs}
 use Rattle.laws.proofs.Together.{_·¹⁰_}
-use Rattle.edges.proofs.print.answer.Statement.{statement}
-use Rattle.edges.proofs.print.answer.Tie as tie
+use Rattle.edgescript.proofs.print.answer.Statement.{statement}
+use Rattle.edgescript.proofs.print.answer.Tie as tie
 
 abbrev Inv-loop : tie.InvT-loop
 Inv-loop s i₀ i = i ≤ 12
