@@ -19,6 +19,9 @@ const FILES: [(&str, bool); 10] = [
     ("taskcap", true),
 ];
 
+/// Sizes that the examples of the documents ask for, and nothing that is drawn.
+const EXAMPLES: [[usize; 3]; 1] = [[4, 8, 2]];
+
 fn main() {
     let here = PathBuf::from(env::var("CARGO_MANIFEST_DIR").unwrap());
     let out = PathBuf::from(env::var("OUT_DIR").unwrap());
@@ -39,7 +42,7 @@ fn main() {
         list += &format!("#[allow(dead_code)]\n#[path = {path:?}]\npub mod {name};\n");
     }
     fs::write(out.join("harbor.rs"), list).unwrap();
-    fs::write(out.join("sizes.rs"), tables(&sizes())).unwrap();
+    fs::write(out.join("sizes.rs"), tables(&sizes(), &EXAMPLES)).unwrap();
 }
 
 /// The sizes that are compiled, since all 17,160 would be too many: every small
@@ -59,17 +62,20 @@ fn sizes() -> Vec<[usize; 3]> {
     list
 }
 
-/// `SIZES`, and `fresh`, which makes a table of one of them.
-fn tables(sizes: &[[usize; 3]]) -> String {
+/// `SIZES` and `EXAMPLES`, and `fresh`, which makes a table of one of them.
+fn tables(sizes: &[[usize; 3]], examples: &[[usize; 3]]) -> String {
     let arms: String = sizes
         .iter()
+        .chain(examples)
         .map(|[m, e, d]| format!("[{m}, {e}, {d}] => Box::new(Table::<{m}, {e}, {d}>::new()),\n"))
         .collect();
     format!(
-        "pub const SIZES: [[usize; 3]; {}] = {sizes:?};\n
+        "pub const SIZES: [[usize; 3]; {}] = {sizes:?};
+        pub const EXAMPLES: [[usize; 3]; {}] = {examples:?};\n
         fn fresh(sizes: [usize; 3]) -> Option<Box<dyn Channels>> {{
             Some(match sizes {{\n{arms}_ => return None,\n}})\n}}\n",
-        sizes.len()
+        sizes.len(),
+        examples.len()
     )
 }
 

@@ -13,6 +13,7 @@ QUARTER, HALF = "about a quarter of a minute", "about half a minute"
 TAKES = {
     "line": QUARTER, "capslots": HALF, "logread": QUARTER, "ipc_rules": QUARTER, "ipc_sound": QUARTER, "ipc_queue": QUARTER, "ipc_holds": QUARTER,
     "ipc_life": QUARTER, "joined": QUARTER, "operations": "about forty seconds", "oplog": HALF, "player": QUARTER, "replay": QUARTER,
+    "dispatcher_rules": QUARTER, "dispatcher": "about forty seconds", "jobscript": "about forty seconds", "jobtext": HALF, "jobs": QUARTER,
 }  # fmt: skip
 
 

@@ -20,17 +20,18 @@ REFUSALS = {
     9: "Vacant", 10: "BadSlot", 11: "BadFromSlot", 12: "ToSlotFull", 13: "ToSlotOob", 14: "Untransferable",
     15: "NoFreeEntry", 16: "NoSuchCapability", 17: "PacketPoolRequired", 18: "HeldVacant", 19: "BadRow", 20: "BadSizes",
     21: "BadWord", 22: "BadMark", 23: "BadOp", 24: "Short", 25: "BadOperand", 26: "NoRoom", 27: "BadTable", 28: "TooLong",
+    29: "NoVariant", 30: "JobsFull", 37: "BadVariants", 38: "NoJob",
 }  # fmt: skip
 
 # The count that a refusal raises, by operation and number.
 RAISED = {(2, 1): "authority", (3, 1): "authority", (4, 1): "authority", (6, 1): "authority", (2, 2): "full", (4, 4): "state"}
 
 
-def records(log):
-    """The log's whole records, each with its offset, up to the first that is not one."""
+def records(log, mark=MARK, operations=tuple(OPERATIONS)):
+    """The whole records of a log, or of what has this mark and these operations, each with its offset, up to the first that is not one."""
     at = 0
-    while log[at : at + 2] == MARK and at + 2 < len(log) and log[at + 2] < len(OPERATIONS):
-        end = at + 3 + OPERATIONS[log[at + 2]][1]
+    while log[at : at + 2] == mark and at + 2 < len(log) and log[at + 2] < len(operations):
+        end = at + 3 + operations[log[at + 2]][1]
         if end > len(log):
             break
         yield at, log[at:end]
@@ -43,25 +44,30 @@ def name(operation):
 
 def say(line):
     """One line of a replay in words."""
+    return said(line, KINDS, "a replay")
+
+
+def said(line, kinds, of):
+    """A line in words: by its first word, end or bad, or by the empty one where it has only numbers."""
     first, *rest = line.split() or [""]
-    kind, numbers = (first, rest) if first in KINDS else ("", [first, *rest])
+    kind, numbers = (first, rest) if first in kinds else ("", [first, *rest])
     try:
         # digits alone: int takes signs, underscores and other scripts too
         if not all(number.isascii() and number.isdigit() for number in numbers):
             raise ValueError
-        return KINDS[kind](*map(int, numbers))
-    except (ValueError, IndexError, TypeError):
-        return "this is no line of a replay"
+        return kinds[kind](*map(int, numbers))
+    except (ValueError, IndexError, KeyError, TypeError):
+        return f"this is no line of {of}"
 
 
-def ended(records):
-    return f"the log ends after {counted(records, 'record')}"
+def ended(records, what="log"):
+    return f"the {what} ends after {counted(records, 'record')}"
 
 
-def faulty(offset, number):
+def faulty(offset, number, what="log"):
     if number == 28:
-        return f"nothing was read, the log is longer than {offset:,} bytes: {refusal(number)}"
-    return f"the log cannot be read from offset {offset} on: {refusal(number)}"
+        return f"nothing was read, the {what} is longer than {offset:,} bytes: {refusal(number)}"
+    return f"the {what} cannot be read from offset {offset} on: {refusal(number)}"
 
 
 def answered(record, operation, number, *values):

@@ -28,4 +28,17 @@ impl<const MAILBOXES: usize, const ENDPOINTS: usize, const DEPTH: usize>
         };
         self.endpoints.iter().map(show).collect()
     }
+
+    pub fn mailbox_of(&self, endpoint: usize) -> usize {
+        self.endpoints[endpoint].mailbox.into()
+    }
+
+    pub fn copied(&self) -> Self {
+        Self {
+            endpoints: self.endpoints,
+            mailboxes: self.mailboxes,
+            next_gen: self.next_gen,
+            refusals: self.refusals,
+        }
+    }
 }

@@ -1,81 +1,134 @@
-//! A log in the making. The Rust tables run along with it, so that a generator
-//! knows the ids that were really handed out.
+//! A log or a script in the making. The Rust tables run along with it, so that a
+//! generator knows the ids that were really handed out.
 
-use crate::log::{self, HEAD, LENGTHS, MARK, MOST};
-use crate::operations::apply;
 use crate::random::Random;
-use crate::tables::Tables;
+use crate::records::{self, HEAD, MOST, Played};
 
-pub struct Draft {
-    pub log: Vec<u8>,
+/// What drawn records are played on, and how they are drawn.
+pub trait Drawn: Played {
+    const KINDS: &'static [Kind];
+    /// How long what `finish` puts is.
+    const LAST: usize = 0;
+    /// More than the records of a family are long.
+    const FAMILY: usize;
+    /// What is learned from the answers.
+    type Known: Default;
+
+    fn learn(known: &mut Self::Known, operation: u8, operands: &[u8], values: &[u64]);
+
+    /// The first records: what the tables are to be.
+    fn begin(d: &mut Draft<Self>);
+
+    /// Drawn operands of an operation; one in `edge_in` values is at an edge.
+    fn operands(d: &mut Draft<Self>, edge_in: u64, operation: u8) -> Vec<u8>;
+
+    /// A whole sequence of records that seldom comes by itself.
+    fn family(d: &mut Draft<Self>);
+
+    /// The last records.
+    fn finish(_d: &mut Draft<Self>) {}
+}
+
+/// A kind of log or script: which operations, how often, how near the edges.
+pub struct Kind {
+    pub name: &'static str,
+    /// Operations, each with its share.
+    pub shares: &'static [(u8, u64)],
+    /// One value in so many is at an edge.
+    pub edge_in: u64,
+    /// One step in so many is a whole family, or none is.
+    pub family_in: Option<u64>,
+}
+
+impl Kind {
+    pub const fn new(
+        name: &'static str,
+        shares: &'static [(u8, u64)],
+        edge_in: u64,
+        family_in: Option<u64>,
+    ) -> Self {
+        Self {
+            name,
+            shares,
+            edge_in,
+            family_in,
+        }
+    }
+}
+
+pub struct Draft<D: Drawn> {
+    pub bytes: Vec<u8>,
     /// Where each record starts.
     pub starts: Vec<usize>,
     pub random: Random,
-    /// The tables as they are after the log so far.
-    pub tables: Tables,
-    pub known: Known,
+    /// The tables as they are after the records so far.
+    pub tables: D,
+    pub known: D::Known,
 }
 
-/// Ids that the log handed out; a channel's are send and receive.
-#[derive(Default)]
-pub struct Known {
-    pub live: Vec<[u32; 2]>,
-    pub revoked: Vec<[u32; 2]>,
-    pub minted: Vec<u32>,
-    /// Messages sent so far: each gets a tag of its own.
-    pub sent: u32,
-}
-
-impl Draft {
+impl<D: Drawn> Draft<D> {
     pub fn new(random: Random) -> Self {
         Self {
-            log: Vec::new(),
+            bytes: Vec::new(),
             starts: Vec::new(),
             random,
-            tables: Tables::new([32, 64, 8]).expect("the greatest sizes are built"),
-            known: Known::default(),
+            tables: D::start(),
+            known: D::Known::default(),
         }
     }
 
-    /// How long a log may still become.
+    /// How much may still come before the last records.
     pub fn room(&self) -> usize {
-        MOST - self.log.len()
+        MOST - D::LAST - self.bytes.len()
     }
 
     /// Writes the record and runs it.
     pub fn push(&mut self, operation: u8, operands: &[u8]) {
-        let start = self.log.len();
+        let start = self.bytes.len();
         self.starts.push(start);
-        self.log.extend(MARK);
-        self.log.push(operation);
-        self.log.extend(operands);
-        let record = log::record(&self.log[start..]).expect("a record that reads");
-        let (number, values) =
-            apply(&mut self.tables, operation, record.operands).expect("sizes that are built");
+        self.bytes.extend(D::MARK);
+        self.bytes.push(operation);
+        self.bytes.extend(operands);
+        let record = records::record::<D>(&self.bytes[start..]).expect("a record that reads");
+        let answer = self.tables.apply(operation, record.operands);
+        let (number, values) = answer.expect("sizes that are built");
         if number == 0 {
-            self.known.learn(operation, operands, &values);
+            D::learn(&mut self.known, operation, operands, &values);
         }
     }
-}
 
-pub fn record_length(operation: u8) -> usize {
-    HEAD + LENGTHS[usize::from(operation)]
-}
+    /// One more step of this kind, where it still fits.
+    pub fn step(&mut self, kind: &Kind) {
+        if let Some(n) = kind.family_in
+            && self.random.below(n) == 0
+            && self.room() > D::FAMILY
+        {
+            return D::family(self);
+        }
+        let operation = self.random.share(kind.shares);
+        if record_length::<D>(operation) <= self.room() {
+            self.put(kind, operation);
+        }
+    }
 
-impl Known {
-    fn learn(&mut self, operation: u8, operands: &[u8], values: &[u64]) {
-        match operation {
-            0 => self.revoked.append(&mut self.live),
-            1 => self.live.push([values[0] as u32, values[1] as u32]),
-            2 => self.sent += 1,
-            6 => {
-                let id = u32::from_le_bytes(operands.try_into().expect("an id"));
-                let ended = self.live.iter().position(|ends| ends.contains(&id));
-                let ended = ended.expect("a live channel is known");
-                self.revoked.push(self.live.remove(ended));
+    /// Steps until there is no room left.
+    pub fn fill(&mut self, kind: &Kind) {
+        while self.room() > 0 {
+            let operation = self.random.share(kind.shares);
+            // one or two bytes that are left are too few for a record
+            match self.room().checked_sub(record_length::<D>(operation)) {
+                None | Some(1 | 2) => {}
+                Some(_) => self.put(kind, operation),
             }
-            19 | 22 => self.minted.push(values[0] as u32),
-            _ => {}
         }
     }
+
+    fn put(&mut self, kind: &Kind, operation: u8) {
+        let operands = D::operands(self, kind.edge_in, operation);
+        self.push(operation, &operands);
+    }
+}
+
+fn record_length<D: Drawn>(operation: u8) -> usize {
+    HEAD + D::LENGTHS[usize::from(operation)]
 }

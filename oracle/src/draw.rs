@@ -1,19 +1,20 @@
 //! Drawn operands: mostly such that the operation does something, sometimes
 //! stale, near, or at an edge.
 
-use crate::draft::Draft;
+use crate::draft::{Draft, Drawn};
 use crate::edges;
 use crate::ids::End;
 use crate::random::Random;
-use crate::tables::{ROWS, SIZES, SLOTS};
+use crate::tables::{ROWS, SIZES, SLOTS, Tables};
 
-/// The operands of an operation. One in `edge_in` values is at an edge.
-pub fn operands(d: &mut Draft, edge_in: u64, operation: u8) -> Vec<u8> {
+/// The operands of an operation of the log.
+pub fn operands(d: &mut Draft<Tables>, edge_in: u64, operation: u8) -> Vec<u8> {
+    let sent = d.known.sent;
     let mut draw = Draw { d, edge_in };
     match operation {
         0 => draw.sizes().to_vec(),
         1 => vec![draw.random().below(2) as u8],
-        2 => [bytes(draw.id(End::Send)), draw.message()].concat(),
+        2 => [bytes(draw.id(End::Send)), draw.message(sent)].concat(),
         3 => bytes(draw.id(End::Receive)),
         4 => [bytes(draw.id(End::Receive)), draw.task()].concat(),
         5 | 6 => bytes(draw.id(End::Either)),
@@ -39,12 +40,13 @@ fn bytes(word: u32) -> Vec<u8> {
     word.to_le_bytes().to_vec()
 }
 
-pub struct Draw<'a> {
-    pub d: &'a mut Draft,
-    edge_in: u64,
+pub struct Draw<'a, D: Drawn> {
+    pub d: &'a mut Draft<D>,
+    pub edge_in: u64,
 }
 
-impl Draw<'_> {
+/// What logs and scripts both draw.
+impl<D: Drawn> Draw<'_, D> {
     pub fn random(&mut self) -> &mut Random {
         &mut self.d.random
     }
@@ -57,15 +59,15 @@ impl Draw<'_> {
         self.one_in(self.edge_in)
     }
 
-    fn sizes(&mut self) -> [u8; 3] {
+    pub fn sizes(&mut self) -> [u8; 3] {
         if self.one_in(4) || self.at_edge() {
             return self.random().pick(&edges::REFUSED_SIZES);
         }
         self.random().pick(&SIZES).map(|size| size as u8)
     }
 
-    fn message(&mut self) -> Vec<u8> {
-        let sent = self.d.known.sent;
+    /// The message after so many that were sent.
+    pub fn message(&mut self, sent: u32) -> Vec<u8> {
         let (tag, a, b) = match self.random().below(32) {
             0 => (u32::MAX, u64::MAX, u64::MAX),
             1 => (0, 0, 0),
@@ -74,7 +76,7 @@ impl Draw<'_> {
         [bytes(tag), a.to_le_bytes().into(), b.to_le_bytes().into()].concat()
     }
 
-    fn task(&mut self) -> Vec<u8> {
+    pub fn task(&mut self) -> Vec<u8> {
         let likely = if self.one_in(4) {
             edges::TASKS.len()
         } else {
@@ -84,6 +86,24 @@ impl Draw<'_> {
         task.iter().flat_map(|part| part.to_le_bytes()).collect()
     }
 
+    /// Mostly one of few, so that rows fill.
+    pub fn row(&mut self) -> u8 {
+        if self.at_edge() {
+            return self.random().pick(&edges::ROWS);
+        }
+        let rows = if self.one_in(8) { ROWS } else { 3 };
+        self.random().below(rows as u64) as u8
+    }
+
+    pub fn slot(&mut self) -> u8 {
+        if self.at_edge() {
+            return self.random().pick(&edges::SLOTS);
+        }
+        self.random().below(SLOTS as u64) as u8
+    }
+}
+
+impl Draw<'_, Tables> {
     /// Four places; some lists name one channel again and again.
     fn list(&mut self) -> Vec<u8> {
         let same = self.one_in(6).then(|| self.id(End::Send));
@@ -101,22 +121,6 @@ impl Draw<'_> {
             list.extend(bytes(same.unwrap_or_else(|| self.id(end))));
         }
         list
-    }
-
-    /// Mostly one of few, so that rows fill.
-    fn row(&mut self) -> u8 {
-        if self.at_edge() {
-            return self.random().pick(&edges::ROWS);
-        }
-        let rows = if self.one_in(8) { ROWS } else { 3 };
-        self.random().below(rows as u64) as u8
-    }
-
-    pub fn slot(&mut self) -> u8 {
-        if self.at_edge() {
-            return self.random().pick(&edges::SLOTS);
-        }
-        self.random().below(SLOTS as u64) as u8
     }
 
     /// From row and slot, to row and slot: at times one place twice.

@@ -1,89 +1,97 @@
-//! Drawn operation logs, of one kind or of all.
+//! Drawn operation logs and job scripts, of one kind or of all.
 
-use crate::damage::damaged;
-use crate::draft::Draft;
-use crate::kinds::{KINDS, Kind, fill, start, step};
-use crate::log::MOST;
+use crate::damage::{Damaged, damaged};
+use crate::draft::{Draft, Drawn, Kind};
 use crate::random::Random;
+use crate::records::{HEAD, MOST};
 use std::fs;
 use std::path::Path;
 
-/// A log of this kind, the same for the same seed.
-pub fn generate(seed: u64, name: &str) -> Result<Vec<u8>, String> {
+/// Bytes of this kind, the same for the same seed.
+pub fn generate<D: Damaged>(seed: u64, name: &str) -> Result<Vec<u8>, String> {
     let mut random = Random::new(seed);
-    if let Some(kind) = find(name) {
+    if let Some(kind) = find::<D>(name) {
         let records = 4 + random.below(117) as usize;
-        return Ok(drawn(random, kind, records).log);
+        return Ok(drawn::<D>(random, kind, records).bytes);
     }
-    let mixed = &KINDS[0];
+    let first = &D::KINDS[0];
     Ok(match name {
         "damaged" => {
-            let kind = &KINDS[random.below(KINDS.len() as u64) as usize];
+            let kind = &D::KINDS[random.below(D::KINDS.len() as u64) as usize];
             let records = random.below(24) as usize;
-            damaged(drawn(random, kind, records))
+            damaged(drawn::<D>(random, kind, records))
         }
-        "full" => exactly_most(random, mixed),
+        "full" => exactly_most::<D>(random, first),
         "over" => {
-            // too long is all that is said, also of a log that starts badly
+            // too long is all that is said, also of what starts badly
             let bad_start = random.below(2) == 0;
-            let mut log = exactly_most(random, mixed);
-            log.push(0x4b);
-            log[0] ^= u8::from(bad_start);
-            log
+            let mut bytes = exactly_most::<D>(random, first);
+            bytes.push(0x4b);
+            bytes[0] ^= u8::from(bad_start);
+            bytes
         }
         "empty" => Vec::new(),
         _ => {
-            let kind = name.strip_prefix("long-").and_then(find);
-            let kind = kind.ok_or_else(|| format!("no kind of log is called {name}"))?;
-            drawn(random, kind, usize::MAX).log
+            let kind = name.strip_prefix("long-").and_then(find::<D>);
+            let kind = kind.ok_or_else(|| format!("there is no kind {name}"))?;
+            drawn::<D>(random, kind, usize::MAX).bytes
         }
     })
 }
 
-fn find(name: &str) -> Option<&'static Kind> {
-    KINDS.iter().find(|kind| kind.name == name)
+fn find<D: Drawn>(name: &str) -> Option<&'static Kind> {
+    D::KINDS.iter().find(|kind| kind.name == name)
 }
 
-/// At most so many steps, and at most a log's length.
-fn drawn(random: Random, kind: &Kind, steps: usize) -> Draft {
+/// At most so many steps, and at most the greatest length.
+fn drawn<D: Drawn>(random: Random, kind: &Kind, steps: usize) -> Draft<D> {
+    let longest = HEAD + D::LENGTHS.iter().max().expect("operations");
     let mut d = Draft::new(random);
-    start(&mut d);
+    D::begin(&mut d);
     let mut left = steps;
-    while left > 0 && d.room() > 27 {
-        step(&mut d, kind);
+    while left > 0 && d.room() > longest {
+        d.step(kind);
         left -= 1;
     }
+    D::finish(&mut d);
     d
 }
 
-fn exactly_most(random: Random, kind: &Kind) -> Vec<u8> {
-    let mut d = Draft::new(random);
-    start(&mut d);
-    fill(&mut d, kind);
-    assert_eq!(d.log.len(), MOST);
-    d.log
+fn exactly_most<D: Drawn>(random: Random, kind: &Kind) -> Vec<u8> {
+    let mut d = Draft::<D>::new(random);
+    D::begin(&mut d);
+    d.fill(kind);
+    D::finish(&mut d);
+    assert_eq!(d.bytes.len(), MOST);
+    d.bytes
 }
 
-/// Writes `count` logs into a folder: an empty one, some as long as a log may be
-/// and one byte longer, one in sixteen long, the others short.
-pub fn many(seed: u64, count: usize, folder: &Path) -> Result<(), String> {
+/// Writes `count` of them into a folder: an empty one, some as long as may be and
+/// one byte longer, one in sixteen long, the others short.
+pub fn many<D: Damaged>(
+    seed: u64,
+    count: usize,
+    folder: &Path,
+    ending: &str,
+) -> Result<(), String> {
     let mut random = Random::new(seed);
     for i in 0..count {
-        let name = name(i);
-        let log = generate(random.next(), &name)?;
-        let path = folder.join(format!("{i:05}-{name}.log"));
-        fs::write(&path, log).map_err(|why| format!("{}: {why}", path.display()))?;
+        let name = name::<D>(i);
+        let bytes = generate::<D>(random.next(), &name)?;
+        let path = folder.join(format!("{i:05}-{name}.{ending}"));
+        fs::write(&path, bytes).map_err(|why| format!("{}: {why}", path.display()))?;
     }
     Ok(())
 }
 
-fn name(i: usize) -> String {
+fn name<D: Drawn>(i: usize) -> String {
+    let kind = |i: usize| D::KINDS[i % D::KINDS.len()].name;
     match (i % 256, i % 16) {
         (0, _) => "empty".into(),
         (1, _) => "full".into(),
         (2, _) => "over".into(),
-        (_, 15) => format!("long-{}", KINDS[i / 16 % KINDS.len()].name),
+        (_, 15) => format!("long-{}", kind(i / 16)),
         (_, 3 | 7 | 11) => "damaged".into(),
-        (_, k) => KINDS[(i / 16 + k) % KINDS.len()].name.into(),
+        (_, k) => kind(i / 16 + k).into(),
     }
 }

@@ -2,6 +2,7 @@
 
 use crate::draw::Draw;
 use crate::edges;
+use crate::tables::Tables;
 
 /// The end of a channel that an id is wanted for.
 #[derive(Clone, Copy)]
@@ -11,7 +12,7 @@ pub enum End {
     Either,
 }
 
-impl Draw<'_> {
+impl Draw<'_, Tables> {
     /// An id for this end: of a live channel, mostly of one of the last two; or
     /// the other end, or revoked, or next to a live one, or no endpoint's.
     pub fn id(&mut self, end: End) -> u32 {

@@ -1,18 +1,8 @@
-//! The kinds of drawn log: which operations, how often, and how near the edges.
+//! The kinds of drawn log, and what is learned while one is drawn.
 
-use crate::draft::{Draft, record_length};
-use crate::draw::operands;
-use crate::tables::SIZES;
-
-pub struct Kind {
-    pub name: &'static str,
-    /// Operations, each with its share.
-    shares: &'static [(u8, u64)],
-    /// One value in so many is at an edge.
-    edge_in: u64,
-    /// One step in so many is a whole family of waiters, or none is.
-    family_in: Option<u64>,
-}
+use crate::draft::{Draft, Drawn, Kind};
+use crate::draw;
+use crate::tables::{SIZES, Tables};
 
 /// Every operation, those that carry messages oftener.
 #[rustfmt::skip]
@@ -38,109 +28,89 @@ const ROWS: &[(u8, u64)] = &[
 #[rustfmt::skip]
 const MINTS: &[(u8, u64)] = &[(19, 50), (20, 24), (21, 4), (22, 10), (23, 10), (16, 2), (17, 2)];
 
-pub const KINDS: [Kind; 6] = [
-    kind("mixed", ALL, 40, Some(60)),
-    kind("queues", QUEUES, 60, Some(30)),
-    kind("churn", CHURN, 60, None),
-    kind("rows", ROWS, 16, None),
-    kind("mints", MINTS, 24, None),
-    kind("edges", ALL, 3, None),
-];
+/// Ids that the log handed out; a channel's are send and receive.
+#[derive(Default)]
+pub struct Known {
+    pub live: Vec<[u32; 2]>,
+    pub revoked: Vec<[u32; 2]>,
+    pub minted: Vec<u32>,
+    /// Messages sent so far: each gets a tag of its own.
+    pub sent: u32,
+}
 
-const fn kind(
-    name: &'static str,
-    shares: &'static [(u8, u64)],
-    edge_in: u64,
-    family_in: Option<u64>,
-) -> Kind {
-    Kind {
-        name,
-        shares,
-        edge_in,
-        family_in,
+impl Drawn for Tables {
+    const KINDS: &'static [Kind] = &[
+        Kind::new("mixed", ALL, 40, Some(60)),
+        Kind::new("queues", QUEUES, 60, Some(30)),
+        Kind::new("churn", CHURN, 60, None),
+        Kind::new("rows", ROWS, 16, None),
+        Kind::new("mints", MINTS, 24, None),
+        Kind::new("edges", ALL, 3, None),
+    ];
+    const FAMILY: usize = 200;
+    type Known = Known;
+
+    fn learn(known: &mut Known, operation: u8, operands: &[u8], values: &[u64]) {
+        match operation {
+            0 => known.revoked.append(&mut known.live),
+            1 => known.live.push([values[0] as u32, values[1] as u32]),
+            2 => known.sent += 1,
+            6 => {
+                let id = u32::from_le_bytes(operands.try_into().expect("an id"));
+                let ended = known.live.iter().position(|ends| ends.contains(&id));
+                let ended = ended.expect("a live channel is known");
+                known.revoked.push(known.live.remove(ended));
+            }
+            19 | 22 => known.minted.push(values[0] as u32),
+            _ => {}
+        }
+    }
+
+    fn begin(d: &mut Draft<Self>) {
+        if let Some(sizes) = first_sizes(d) {
+            d.push(0, &sizes);
+        }
+    }
+
+    fn operands(d: &mut Draft<Self>, edge_in: u64, operation: u8) -> Vec<u8> {
+        draw::operands(d, edge_in, operation)
+    }
+
+    /// Up to four ephemeral channels, a row that holds them, a waiter on each; then
+    /// the holds go, all at once.
+    fn family(d: &mut Draft<Self>) {
+        let before = d.known.live.len();
+        let members = 1 + d.random.below(4);
+        (0..members).for_each(|_| d.push(1, &[1]));
+        let made = d.known.live[before..].to_vec();
+        let mut list = vec![0; 20];
+        for (place, [send, _]) in list.chunks_exact_mut(5).zip(&made) {
+            place[0] = 1;
+            place[1..].copy_from_slice(&send.to_le_bytes());
+        }
+        let row = vec![d.random.below(54) as u8];
+        d.push(24, &[row.clone(), list.clone()].concat());
+        for (i, [_, receive]) in made.iter().enumerate() {
+            d.push(4, &[receive.to_le_bytes(), [i as u8, 0, 1, 0]].concat());
+        }
+        match d.random.below(2) {
+            0 => d.push(8, &list),
+            _ => d.push(25, &row),
+        }
     }
 }
 
-/// Starts with the greatest sizes as they are, or asks for a small table, or for
-/// any that is built.
-pub fn start(d: &mut Draft) {
+/// Nothing for the greatest sizes as they are, or a small table's, or any that
+/// are built.
+pub fn first_sizes<D: Drawn>(d: &mut Draft<D>) -> Option<[u8; 3]> {
     let serves = |sizes: &[usize; 3]| (1..=3).contains(&sizes[0]) && (2..=6).contains(&sizes[1]);
     let sizes = match d.random.below(3) {
-        0 => return,
+        0 => return None,
         1 => {
             let small: Vec<_> = SIZES.into_iter().filter(serves).collect();
             d.random.pick(&small)
         }
         _ => d.random.pick(&SIZES),
     };
-    d.push(0, &sizes.map(|size| size as u8));
-}
-
-/// One more step of this kind, where it still fits.
-pub fn step(d: &mut Draft, kind: &Kind) {
-    if let Some(n) = kind.family_in
-        && d.random.below(n) == 0
-        && d.room() > FAMILY
-    {
-        return family(d);
-    }
-    let operation = drawn(d, kind);
-    if record_length(operation) <= d.room() {
-        put(d, kind, operation);
-    }
-}
-
-/// Steps until the log is exactly as long as a log may be.
-pub fn fill(d: &mut Draft, kind: &Kind) {
-    while d.room() > 0 {
-        let operation = drawn(d, kind);
-        // one or two bytes that are left are too few for a record
-        match d.room().checked_sub(record_length(operation)) {
-            None | Some(1 | 2) => {}
-            Some(_) => put(d, kind, operation),
-        }
-    }
-}
-
-fn put(d: &mut Draft, kind: &Kind, operation: u8) {
-    let operands = operands(d, kind.edge_in, operation);
-    d.push(operation, &operands);
-}
-
-fn drawn(d: &mut Draft, kind: &Kind) -> u8 {
-    let all = kind.shares.iter().map(|(_, share)| share).sum();
-    let mut at = d.random.below(all);
-    for (operation, share) in kind.shares {
-        if at < *share {
-            return *operation;
-        }
-        at -= share;
-    }
-    unreachable!("the shares add up")
-}
-
-/// More than a family's records are long.
-const FAMILY: usize = 200;
-
-/// Up to four ephemeral channels, a row that holds them, a waiter on each; then
-/// the holds go, all at once.
-fn family(d: &mut Draft) {
-    let before = d.known.live.len();
-    let members = 1 + d.random.below(4);
-    (0..members).for_each(|_| d.push(1, &[1]));
-    let made = d.known.live[before..].to_vec();
-    let mut list = vec![0; 20];
-    for (place, [send, _]) in list.chunks_exact_mut(5).zip(&made) {
-        place[0] = 1;
-        place[1..].copy_from_slice(&send.to_le_bytes());
-    }
-    let row = vec![d.random.below(54) as u8];
-    d.push(24, &[row.clone(), list.clone()].concat());
-    for (i, [_, receive]) in made.iter().enumerate() {
-        d.push(4, &[receive.to_le_bytes(), [i as u8, 0, 1, 0]].concat());
-    }
-    match d.random.below(2) {
-        0 => d.push(8, &list),
-        _ => d.push(25, &row),
-    }
+    Some(sizes.map(|size| size as u8))
 }

@@ -1,5 +1,6 @@
 //! Runs the Rust that is ported, for comparison. README.md says how.
 
+mod answers;
 mod bind;
 mod cases;
 mod coverage;
@@ -10,10 +11,12 @@ mod dump;
 mod edges;
 mod generate;
 mod ids;
+mod jobs;
 mod kinds;
 mod log;
 mod operations;
 mod random;
+mod records;
 mod replay;
 mod rounds;
 mod tables;
@@ -25,10 +28,15 @@ mod wrap;
 // The modules of the Rust text: build.rs makes the list.
 include!(concat!(env!("OUT_DIR"), "/harbor.rs"));
 
+use coverage::Covered;
+use damage::Damaged;
+use jobs::Jobs;
+use records::Played;
 use std::io::{self, Read, Write};
 use std::path::{Path, PathBuf};
 use std::process::ExitCode;
 use std::{fs, panic};
+use tables::Tables;
 
 const USAGE: &str = "usage: oracle COMMAND
   bind-edges                  cases of bind on both sides of each edge
@@ -44,6 +52,13 @@ const USAGE: &str = "usage: oracle COMMAND
                               damaged; full and over (65,536 bytes and one more); empty
   generate-many SEED COUNT FOLDER   drawn logs of all kinds, as files
   coverage FOLDER             runs each log there; fails where a number that can occur did not
+  jobs                        reads a job script, prints the lines of the dispatcher over the Rust's tables
+  jobs-all FOLDER             writes what jobs prints for each NAME.jobs there to NAME.rust
+  jobs-generate SEED KIND     a drawn script: mixed, queues, churn, crowded or edges, each also with long- before it;
+                              damaged; full and over; empty
+  jobs-generate-many SEED COUNT FOLDER   drawn scripts of all kinds, as files
+  jobs-coverage FOLDER        as coverage, for scripts
+  jobs-astray                 fails, for it hands a job's message to another row
   wrap                        65,535 creations, until the first id opens again
   sizes                       the sizes of channel table that a log may ask for
   where                       this program's own path";
@@ -85,21 +100,18 @@ fn run(words: &[&str]) -> Result<Vec<u8>, String> {
         ["bind"] => Ok(bind::answers(&input()?)?.into_bytes()),
         ["rounds", count] => Ok(format!("{}\n", rounds::rounds(number(count)?)).into_bytes()),
         ["sizes"] => Ok(sizes().into_bytes()),
-        ["replay"] => Ok(replay::replay(&input()?)?.0.into_bytes()),
+        ["replay"] => lines::<Tables>(&input()?),
         ["dump"] => Ok(dumped(&input()?)?.into_bytes()),
-        ["dump-all", folder] => {
-            for path in logs(folder)? {
-                let text = dumped(&fs::read(&path).map_err(say)?)?;
-                fs::write(path.with_extension("rust"), text).map_err(say)?;
-            }
-            Ok(Vec::new())
-        }
-        ["generate", seed, kind] => generate::generate(number(seed)?, kind),
-        ["generate-many", seed, count, folder] => {
-            generate::many(number(seed)?, number(count)?, Path::new(folder))?;
-            Ok(Vec::new())
-        }
-        ["coverage", folder] => covered(folder),
+        ["dump-all", folder] => all::<Tables>(folder, |log| Ok(dumped(log)?.into_bytes())),
+        ["generate", seed, kind] => generate::generate::<Tables>(number(seed)?, kind),
+        ["generate-many", seed, count, folder] => many::<Tables>(seed, count, folder),
+        ["coverage", folder] => covered::<Tables>(folder),
+        ["jobs"] => lines::<Jobs>(&input()?),
+        ["jobs-all", folder] => all::<Jobs>(folder, lines::<Jobs>),
+        ["jobs-generate", seed, kind] => generate::generate::<Jobs>(number(seed)?, kind),
+        ["jobs-generate-many", seed, count, folder] => many::<Jobs>(seed, count, folder),
+        ["jobs-coverage", folder] => covered::<Jobs>(folder),
+        ["jobs-astray"] => Ok(jobs::astray()?.into_bytes()),
         ["wrap"] => Ok(wrap::wrap()?.into_bytes()),
         ["where"] => Ok(format!("{}\n", here()?.display()).into_bytes()),
         _ => Err(USAGE.into()),
@@ -117,13 +129,41 @@ fn dumped(log: &[u8]) -> Result<String, String> {
     Ok(lines + &dump::dump(&tables))
 }
 
-/// Prints the table whether or not anything is wrong with it.
-fn covered(folder: &str) -> Result<Vec<u8>, String> {
-    let mut coverage = coverage::Coverage::default();
-    for path in logs(folder)? {
-        coverage.add(&fs::read(path).map_err(say)?)?;
+fn lines<P: Played>(bytes: &[u8]) -> Result<Vec<u8>, String> {
+    let (lines, _): (_, P) = replay::replay(bytes)?;
+    Ok(lines.into_bytes())
+}
+
+/// Writes what each file of a folder is answered beside it.
+fn all<C: Covered>(
+    folder: &str,
+    answered: impl Fn(&[u8]) -> Result<Vec<u8>, String>,
+) -> Result<Vec<u8>, String> {
+    for path in files::<C>(folder)? {
+        let bytes = fs::read(&path).map_err(say)?;
+        let text = answered(&bytes).map_err(|why| format!("{}: {why}", path.display()))?;
+        fs::write(path.with_extension("rust"), text).map_err(say)?;
     }
-    let (table, wrong) = coverage.table();
+    Ok(Vec::new())
+}
+
+fn many<D: Damaged + Covered>(seed: &str, count: &str, folder: &str) -> Result<Vec<u8>, String> {
+    generate::many::<D>(
+        number(seed)?,
+        number(count)?,
+        Path::new(folder),
+        D::NAMES[0],
+    )?;
+    Ok(Vec::new())
+}
+
+/// Prints the table whether or not anything is wrong with it.
+fn covered<C: Covered>(folder: &str) -> Result<Vec<u8>, String> {
+    let mut coverage = coverage::Coverage::default();
+    for path in files::<C>(folder)? {
+        coverage.add::<C>(&fs::read(path).map_err(say)?)?;
+    }
+    let (table, wrong) = coverage.table::<C>();
     if wrong.is_empty() {
         return Ok(table.into_bytes());
     }
@@ -131,11 +171,11 @@ fn covered(folder: &str) -> Result<Vec<u8>, String> {
     Err(wrong.join("\n"))
 }
 
-/// The logs of a folder, in order.
-fn logs(folder: &str) -> Result<Vec<PathBuf>, String> {
+/// The logs or scripts of a folder, in order.
+fn files<C: Covered>(folder: &str) -> Result<Vec<PathBuf>, String> {
     let entries = fs::read_dir(folder).map_err(|why| format!("{folder}: {why}"))?;
     let mut paths: Vec<_> = entries.flatten().map(|entry| entry.path()).collect();
-    paths.retain(|path| path.extension().is_some_and(|it| it == "log"));
+    paths.retain(|path| path.extension().is_some_and(|it| it == C::NAMES[0]));
     paths.sort();
     Ok(paths)
 }
@@ -146,7 +186,8 @@ fn here() -> Result<PathBuf, String> {
 
 fn sizes() -> String {
     let line = |[m, e, d]: &[usize; 3]| format!("{m} {e} {d}\n");
-    tables::SIZES.iter().map(line).collect()
+    let sizes = tables::SIZES.iter().chain(&tables::EXAMPLES);
+    sizes.map(line).collect()
 }
 
 fn input() -> Result<Vec<u8>, String> {

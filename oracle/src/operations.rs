@@ -1,20 +1,11 @@
-//! The log's 28 operations on the Rust tables, with the refusal's number or 0
-//! and the values that are printed.
+//! The log's 28 operations on the Rust tables.
 
-use crate::cap::{CapId, SlotError};
+use crate::answers::*;
+use crate::cap::CapId;
 use crate::capslots::TransferError;
-use crate::ipc::{CreateError, Message, RecvError, SendError};
-use crate::log::Operands;
-use crate::runqueue::TaskId;
+use crate::records::Operands;
 use crate::tables::{ROWS, Tables};
 use std::panic::{self, AssertUnwindSafe};
-
-const BAD_CAP: u8 = 1;
-const BAD_ROW: u8 = 19;
-const BAD_SIZES: u8 = 20;
-
-/// Number and values.
-type Answer = (u8, Vec<u64>);
 
 pub fn apply(t: &mut Tables, operation: u8, mut o: Operands) -> Result<Answer, String> {
     let channels = &mut t.channels;
@@ -22,22 +13,11 @@ pub fn apply(t: &mut Tables, operation: u8, mut o: Operands) -> Result<Answer, S
         0 => return new(t, [o.small(), o.small(), o.small()]),
         1 => match channels.create(o.byte() == 1) {
             Ok(channel) => done([channel.send.raw(), channel.recv.raw()]),
-            Err(CreateError::NoMailbox) => no(6),
-            Err(CreateError::NoEndpoint) => no(7),
+            Err(refusal) => uncreated(refusal),
         },
-        2 => match channels.send(o.id(), message(&mut o)) {
-            Ok(woken) => (0, waiter(woken)),
-            Err(SendError::BadCap) => no(BAD_CAP),
-            Err(SendError::Full) => no(2),
-        },
-        3 => channels
-            .try_recv(o.id())
-            .map_or_else(unreceived, |message| done(parts(message))),
-        4 => match channels.park(o.id(), o.task()) {
-            Ok(Some(message)) => done([1].into_iter().chain(parts(message))),
-            Ok(None) => done([0u64]),
-            Err(refusal) => unreceived(refusal),
-        },
+        2 => sent(channels.send(o.id(), message(&mut o))),
+        3 => received(channels.try_recv(o.id())),
+        4 => parked(channels.park(o.id(), o.task())),
         5 => found(channels.queued(o.id()).ok().map(|n| n as u64)),
         6 => match channels.revoke(o.id()) {
             Ok(woken) => (0, waiter(woken)),
@@ -63,10 +43,7 @@ pub fn apply(t: &mut Tables, operation: u8, mut o: Operands) -> Result<Answer, S
         21 => done([t.tasks.revoke_task(o.word())]),
         22 => minted(t.irqs.mint(o.word()).ok()),
         23 => found(t.irqs.lookup(o.id()).ok()),
-        27 => {
-            let counts = channels.refusals();
-            done([counts.authority, counts.full, counts.state])
-        }
+        27 => counts(t),
         _ => on_rows(t, operation, o),
     })
 }
@@ -77,8 +54,7 @@ fn on_rows(t: &mut Tables, operation: u8, mut o: Operands) -> Answer {
     match operation {
         13 => match t.rows.get(row, o.small()) {
             Ok(id) => done([id.raw()]),
-            Err(SlotError::OutOfRange { slot, slots }) => (8, vec![slot as u64, slots as u64]),
-            Err(SlotError::Empty { slot }) => (9, vec![slot as u64]),
+            Err(refusal) => ungotten(refusal),
         },
         14 => done([t.rows.holds(row, o.id())]),
         15 => {
@@ -87,10 +63,7 @@ fn on_rows(t: &mut Tables, operation: u8, mut o: Operands) -> Answer {
         }
         16 => no(install(t, row, o.small(), o.id())),
         17 => no(transfer(t, row, o.small(), o.small(), o.small())),
-        18 => {
-            let places = t.rows.drain(row);
-            (0, optional(places, |id| vec![id.raw().into()]))
-        }
+        18 => (0, ids(t.rows.drain(row))),
         24 | 25 if row >= ROWS => no(BAD_ROW),
         24 => {
             let list = o.list();
@@ -99,29 +72,37 @@ fn on_rows(t: &mut Tables, operation: u8, mut o: Operands) -> Answer {
             no(0)
         }
         25 => (0, waiters(t.channels.release(&t.rows.drain(row)))),
-        26 => {
-            let (slot, id) = (o.small(), o.id());
-            let number = install(t, row, slot, id);
-            if number == 0 {
-                t.channels.register(&[Some(id)]);
-            }
-            no(number)
-        }
+        26 => no(give(t, row, o.small(), o.id())),
         _ => unreachable!("operation {operation} is on no row"),
     }
 }
 
 fn new(t: &mut Tables, sizes: [usize; 3]) -> Result<Answer, String> {
-    let [m, e, d] = sizes;
-    if m > 32 || e > 64 || !(1..=8).contains(&d) {
-        return Ok(no(BAD_SIZES));
-    }
-    *t = Tables::new(sizes).ok_or(format!("no table of sizes {sizes:?} is built"))?;
-    Ok(no(0))
+    Ok(match Tables::made(sizes)? {
+        Some(made) => {
+            *t = made;
+            no(0)
+        }
+        None => no(BAD_SIZES),
+    })
 }
 
-fn install(t: &mut Tables, row: usize, slot: usize, id: CapId) -> u8 {
-    t.rows.install(row, slot, id).map_or(10, |()| 0)
+pub fn counts(t: &Tables) -> Answer {
+    let counts = t.channels.refusals();
+    done([counts.authority, counts.full, counts.state])
+}
+
+pub fn install(t: &mut Tables, row: usize, slot: usize, id: CapId) -> u8 {
+    t.rows.install(row, slot, id).map_or(BAD_SLOT, |()| 0)
+}
+
+/// Installs an id and, where that succeeds, registers it.
+pub fn give(t: &mut Tables, row: usize, slot: usize, id: CapId) -> u8 {
+    let number = install(t, row, slot, id);
+    if number == 0 {
+        t.channels.register(&[Some(id)]);
+    }
+    number
 }
 
 /// 19 stands where the Rust panics, before it has changed anything.
@@ -140,56 +121,10 @@ fn transfer(t: &mut Tables, from: usize, from_slot: usize, to: usize, to_slot: u
     }
 }
 
-fn no(number: u8) -> Answer {
-    (number, Vec::new())
-}
-
-fn done<N: Into<u64>>(values: impl IntoIterator<Item = N>) -> Answer {
-    (0, values.into_iter().map(Into::into).collect())
-}
-
 fn found<N: Into<u64>>(number: Option<N>) -> Answer {
     number.map_or(no(BAD_CAP), |number| done([number]))
 }
 
 fn minted(id: Option<CapId>) -> Answer {
     id.map_or(no(15), |id| done([id.raw()]))
-}
-
-fn unreceived(refusal: RecvError) -> Answer {
-    no(match refusal {
-        RecvError::BadCap => BAD_CAP,
-        RecvError::Empty => 3,
-        RecvError::Busy => 4,
-        RecvError::Cancelled => 5,
-    })
-}
-
-fn message(o: &mut Operands) -> Message {
-    Message {
-        tag: o.word(),
-        a: o.long(),
-        b: o.long(),
-    }
-}
-
-fn parts(message: Message) -> [u64; 3] {
-    [message.tag.into(), message.a, message.b]
-}
-
-fn waiter(task: Option<TaskId>) -> Vec<u64> {
-    waiters([task])
-}
-
-fn waiters<const N: usize>(tasks: [Option<TaskId>; N]) -> Vec<u64> {
-    optional(tasks, |task| vec![task.slot() as u64, task.epoch().into()])
-}
-
-/// For each place `0`, or `1` and its values.
-fn optional<T, const N: usize>(places: [Option<T>; N], values: fn(T) -> Vec<u64>) -> Vec<u64> {
-    let one = |place: Option<T>| match place {
-        Some(it) => [vec![1], values(it)].concat(),
-        None => vec![0],
-    };
-    places.into_iter().flat_map(one).collect()
 }

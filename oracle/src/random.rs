@@ -24,4 +24,17 @@ impl Random {
     pub fn pick<T: Copy>(&mut self, choices: &[T]) -> T {
         choices[self.below(choices.len() as u64) as usize]
     }
+
+    /// One of `shares`, each as often as its share says.
+    pub fn share(&mut self, shares: &[(u8, u64)]) -> u8 {
+        let all = shares.iter().map(|(_, share)| share).sum();
+        let mut at = self.below(all);
+        for (choice, share) in shares {
+            if at < *share {
+                return *choice;
+            }
+            at -= share;
+        }
+        unreachable!("the shares add up")
+    }
 }

@@ -1,8 +1,6 @@
-//! A log run on the Rust tables: one line a record, as document 01 prints it.
+//! Records played: one line each, as document 01 prints it.
 
-use crate::log::{self, Operands};
-use crate::operations::apply;
-use crate::tables::Tables;
+use crate::records::{self, Operands, Played};
 use std::fmt::Write;
 
 pub const TOO_LONG: u8 = 28;
@@ -16,7 +14,7 @@ pub enum Event<'a> {
         number: u8,
         values: Vec<u64>,
     },
-    /// The fault's number, its offset, and the log from there.
+    /// The fault's number, its offset, and the bytes from there.
     Bad {
         at: usize,
         rest: &'a [u8],
@@ -27,19 +25,23 @@ pub enum Event<'a> {
     },
 }
 
-/// Runs a log, showing each event with the tables after it, and gives the tables
-/// at its end. A table of sizes that are not built is an error.
-pub fn run<'a>(bytes: &'a [u8], mut see: impl FnMut(&Tables, Event<'a>)) -> Result<Tables, String> {
-    let mut tables = Tables::new([32, 64, 8]).expect("the greatest sizes are built");
+/// Plays the records, showing each event with the tables after it, and gives the
+/// tables at the end.
+pub fn run<'a, P: Played>(
+    bytes: &'a [u8],
+    mut see: impl FnMut(&P, Event<'a>),
+) -> Result<P, String> {
+    let mut tables = P::start();
     let bad = |at, rest, fault| Event::Bad { at, rest, fault };
-    if bytes.len() > log::MOST {
-        see(&tables, bad(log::MOST, &bytes[log::MOST..], TOO_LONG));
+    if bytes.len() > records::MOST {
+        let rest = &bytes[records::MOST..];
+        see(&tables, bad(records::MOST, rest, TOO_LONG));
         return Ok(tables);
     }
     let mut rest = bytes;
     let mut records = 0;
     while !rest.is_empty() {
-        let record = match log::record(rest) {
+        let record = match records::record::<P>(rest) {
             Ok(record) => record,
             Err(fault) => {
                 see(&tables, bad(bytes.len() - rest.len(), rest, fault));
@@ -47,12 +49,14 @@ pub fn run<'a>(bytes: &'a [u8], mut see: impl FnMut(&Tables, Event<'a>)) -> Resu
             }
         };
         records += 1;
-        let log::Record {
+        let records::Record {
             operation,
             operands,
             length,
         } = record;
-        let (number, values) = apply(&mut tables, operation, operands)?;
+        let (number, values) = tables
+            .apply(operation, operands)
+            .map_err(|why| format!("record {records}: {why}"))?;
         let answered = Event::Answered {
             record: records,
             operation,
@@ -67,8 +71,8 @@ pub fn run<'a>(bytes: &'a [u8], mut see: impl FnMut(&Tables, Event<'a>)) -> Resu
     Ok(tables)
 }
 
-/// The lines of a log, and the tables after it.
-pub fn replay(bytes: &[u8]) -> Result<(String, Tables), String> {
+/// The lines of the records, and the tables after them.
+pub fn replay<P: Played>(bytes: &[u8]) -> Result<(String, P), String> {
     let mut text = String::new();
     let tables = run(bytes, |_, event| line(&mut text, event))?;
     Ok((text, tables))

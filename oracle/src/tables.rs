@@ -21,14 +21,25 @@ pub struct Tables {
 }
 
 impl Tables {
-    /// Fresh tables; nothing where the channel table's sizes are none of `SIZES`.
-    pub fn new(sizes: [usize; 3]) -> Option<Self> {
-        Some(Self {
-            channels: fresh(sizes)?,
+    /// Fresh tables; nothing where the sizes are past the greatest, and an error
+    /// where they are not built.
+    pub fn made(sizes: [usize; 3]) -> Result<Option<Self>, String> {
+        let [m, e, d] = sizes;
+        if m > 32 || e > 64 || !(1..=8).contains(&d) {
+            return Ok(None);
+        }
+        let channels = fresh(sizes).ok_or(format!("no table of sizes {sizes:?} is built"))?;
+        Ok(Some(Self {
+            channels,
             rows: capslots::Table::new(),
             tasks: taskcap::Table::new(),
             irqs: irqcap::Table::new(),
-        })
+        }))
+    }
+
+    pub fn greatest() -> Self {
+        let made = Self::made([32, 64, 8]).expect("the greatest sizes are built");
+        made.expect("and are not past themselves")
     }
 }
 
@@ -52,6 +63,9 @@ pub trait Channels {
     fn next_generation(&self) -> u16;
     fn mailboxes(&self) -> Vec<Mailbox>;
     fn endpoints(&self) -> Vec<Endpoint>;
+    /// The mailbox that the endpoint of an id names.
+    fn mailbox_of(&self, id: CapId) -> usize;
+    fn copied(&self) -> Box<dyn Channels>;
 }
 
 impl<const M: usize, const E: usize, const D: usize> Channels for Table<M, E, D> {
@@ -124,5 +138,13 @@ impl<const M: usize, const E: usize, const D: usize> Channels for Table<M, E, D>
 
     fn endpoints(&self) -> Vec<Endpoint> {
         self.endpoints()
+    }
+
+    fn mailbox_of(&self, id: CapId) -> usize {
+        self.mailbox_of(id.index().into())
+    }
+
+    fn copied(&self) -> Box<dyn Channels> {
+        Box::new(self.copied())
     }
 }

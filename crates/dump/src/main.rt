@@ -128,7 +128,7 @@ fn main() {
     if played.whole {
         let t = played.tables;
         if !(channels(t.channels) & rows(t.rows) & tasks(t.tasks) & irqs(t.irqs)) {
-            player::tell_unwritten();
+            standard::tell_unwritten();
         }
     }
 }

@@ -110,11 +110,7 @@ pub(crate) fn call(op: u8, t: Table, w: &[u64]) -> Table {
         log::RELEASE => release(t, w),
         log::CLEAR_WAITER => clear_waiter(t, w),
         log::NOTE_AUTHORITY | log::NOTE_STATE => note(op, t),
-        op::SET_HEAD => broken::set_head(t, w),
-        op::SET_ENDPOINT => broken::set_endpoint(t, w),
-        op::SET_MAILBOX => broken::set_mailbox(t, w),
-        op::SET_MESSAGE => broken::set_message(t, w),
-        _ => t,
+        _ => broken::set(op, t, w),
     }
 }
 

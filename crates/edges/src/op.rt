@@ -1,20 +1,8 @@
-// The numbers of what no log can say. Those of document 01's operations, 0 to 27, are in `logread::op`.
+// The numbers of what no log can say. Those of document 01's operations, 0 to 27, are in `logread::op`, and those that set a part of the
+// channel table in `edgescript::broken`.
 
 // Next generation, m, e and d of the channel table.
 pub(crate) const LOOK: u8 = 100;
-
-// A part of the channel table set, sound or not; nothing is answered.
-// Sizes and counters: m, e, d; next generation; authority, full, state.
-pub(crate) const SET_HEAD: u8 = 101;
-
-// An endpoint: its place; live, generation, rights, mailbox.
-pub(crate) const SET_ENDPOINT: u8 = 102;
-
-// A mailbox: its place; live; head, tail, length; whether one waits, slot, epoch; holds; ephemeral.
-pub(crate) const SET_MAILBOX: u8 = 103;
-
-// A message: its place; tag, a, b.
-pub(crate) const SET_MESSAGE: u8 = 104;
 
 // `bind`, on words and on lent records: packet pool; four wanted indices, 256 for none; the held list.
 pub(crate) const BIND: u8 = 110;

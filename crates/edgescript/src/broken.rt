@@ -21,6 +21,18 @@ use ipc_rules::state::Table;
 use ipc_rules::state::Waiter;
 use ring::Ring;
 
+// Each sets a part of the channel table, sound or not; nothing is answered. Sizes and counters: m, e, d; next generation; authority, full, state.
+pub const SET_HEAD: u8 = 101;
+
+// An endpoint: its place; live, generation, rights, mailbox.
+pub const SET_ENDPOINT: u8 = 102;
+
+// A mailbox: its place; live; head, tail, length; whether one waits, slot, epoch; holds; ephemeral.
+pub const SET_MAILBOX: u8 = 103;
+
+// A message: its place; tag, a, b.
+pub const SET_MESSAGE: u8 = 104;
+
 const MAX_MESSAGES: usize = MAX_MAILBOXES * MAX_DEPTH;
 
 fn sizes(w: &[u64]) -> Sizes {
@@ -68,7 +80,7 @@ fn mailbox(w: &[u64]) -> Mailbox {
     }
 }
 
-pub fn set_head(mut t: Table, w: &[u64]) -> Table {
+fn set_head(mut t: Table, w: &[u64]) -> Table {
     let z = sizes(w);
     let c = counters(rest(w, 3));
     t.sizes = z;
@@ -76,24 +88,36 @@ pub fn set_head(mut t: Table, w: &[u64]) -> Table {
     t
 }
 
-pub fn set_endpoint(mut t: Table, w: &[u64]) -> Table {
+fn set_endpoint(mut t: Table, w: &[u64]) -> Table {
     let i = size(w, 0) % MAX_ENDPOINTS;
     t.endpoints[i] = endpoint(rest(w, 1));
     t
 }
 
-pub fn set_mailbox(mut t: Table, w: &[u64]) -> Table {
+fn set_mailbox(mut t: Table, w: &[u64]) -> Table {
     let k = size(w, 0) % MAX_MAILBOXES;
     t.mailboxes[k] = mailbox(rest(w, 1));
     t
 }
 
-pub fn set_message(mut t: Table, w: &[u64]) -> Table {
+fn set_message(mut t: Table, w: &[u64]) -> Table {
     let p = size(w, 0) % MAX_MESSAGES;
     t.messages[p] = operands::message(rest(w, 1));
     t
 }
 
+// The part that the number names; the table as it was where it names none.
+pub fn set(op: u8, t: Table, w: &[u64]) -> Table {
+    match op {
+        SET_HEAD => set_head(t, w),
+        SET_ENDPOINT => set_endpoint(t, w),
+        SET_MAILBOX => set_mailbox(t, w),
+        SET_MESSAGE => set_message(t, w),
+        _ => t,
+    }
+}
+
+// Next generation, m, e and d.
 pub fn look(next: u16, z: Sizes) {
     print::value(next as u64);
     print::value(z.mailboxes as u64);

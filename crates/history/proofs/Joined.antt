@@ -15,7 +15,7 @@ use Rattle.cap.specs.declared.CapId.{CapId}
 use Rattle.cap.specs.declared.slot.Slot.{Slot}
 use Rattle.cap.proofs.Words.{holding-back, reads-test}
 use Rattle.capslots.specs.Rows.{drainOf}
-use Rattle.capslots.specs.Table.{Shape}
+use Rattle.capslots.specs.Table.{freshTable, Shape}
 use Rattle.capslots.specs.declared.Table.{Table as Rows}
 use Rattle.capslots.specs.declared.Drained.{Drained}
 use Rattle.capslots.proofs.Ways.{drain-ways}
@@ -37,7 +37,7 @@ use Rattle.joined.proofs.Register.{list-registered, word-registered}
 use Rattle.joined.proofs.Ways.{spawn-ways, leave-ways, give-ways}
 use Rattle.history.specs.Calls as calls
 use Rattle.history.specs.Calls.{Call, register, fourSlots, releasing, answer, after}
-use Rattle.history.specs.World.{World, run}
+use Rattle.history.specs.World.{World, run, Reached}
 use Rattle.history.specs.Joined.{ifAccepted, registering, spawnCalls, leaveCalls, giveCalls, JoinedRuns, JoinedTell}
 use Rattle.history.proofs.Kept.{step-table}
 use Rattle.history.proofs.Tidy.{Tidy, reached-tidy}
@@ -141,6 +141,10 @@ module _ (w : World) (rows : Rows) where
 
 pub joined-runs : JoinedRuns
 joined-runs w reached rows shape = record { spawn = spawn-run w rows; leave = λ r. leave-run w rows r shape; give = λ r s c. give-run w rows r s c (reached-tidy reached) }
+
+-- an id registered by itself, as a give does
+pub id-registered : (w : World) → Reached w → (c : CapId) → after (w .table) (registering c) ≡ registered (w .table) (holding c)
+id-registered w reached c = id-held w freshTable c (reached-tidy reached) (ltb (c .raw) 4294967296) refl
 
 -- ---- what they answer
 register-reads : (t : Table) (words : List ℕ) → wordsRead words ≡ true → answer t (register words) ≡ calls.registered Registered

@@ -41,7 +41,7 @@ fn push_waiter(s: Shown, w: Waiter) -> Shown
 }
 
 // ---- what an accepted call shows
-fn waiter_shown(w: Waiter) -> Shown
+pub fn waiter_shown(w: Waiter) -> Shown
     ensures { λ r. ⌜ r ≡ shown none (waiterValues w) ⌝ }
 {
     if w.present {

@@ -1,4 +1,5 @@
--- Every no, by number: the numbers of document 01's table, under its names. An answer that is no refusal has the number `none`.
+-- Every no, by number: the numbers of document 01's table, under its names, and those of later requests. An answer that is no refusal
+-- has the number `none`.
 use Prim.Native.Nat.{ℕ}
 
 abbrev pub none : ℕ
@@ -87,3 +88,16 @@ badTable = 27
 
 abbrev pub tooLong : ℕ
 tooLong = 28
+
+-- the dispatcher's
+abbrev pub noVariant : ℕ
+noVariant = 29
+
+abbrev pub jobsFull : ℕ
+jobsFull = 30
+
+abbrev pub badVariants : ℕ
+badVariants = 37
+
+abbrev pub noJob : ℕ
+noJob = 38

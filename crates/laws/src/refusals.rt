@@ -56,3 +56,12 @@ pub const NO_ROOM: u8 = 26;
 pub const BAD_TABLE: u8 = 27;
 
 pub const TOO_LONG: u8 = 28;
+
+// The dispatcher's.
+pub const NO_VARIANT: u8 = 29;
+
+pub const JOBS_FULL: u8 = 30;
+
+pub const BAD_VARIANTS: u8 = 37;
+
+pub const NO_JOB: u8 = 38;

@@ -1,0 +1,9 @@
+pub mod Binds
+pub mod Choices
+pub mod Examples
+pub mod Guards
+pub mod Shows
+pub mod Ways
+pub mod Calls
+pub mod Named
+pub mod Promises

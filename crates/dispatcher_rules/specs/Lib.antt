@@ -1,0 +1,9 @@
+pub mod Answers
+pub mod State
+pub mod Bound
+pub mod Make
+pub mod Open
+pub mod Close
+pub mod Slots
+pub mod Border
+pub mod Promises

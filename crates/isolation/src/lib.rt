@@ -1,0 +1,1 @@
+// What holds of every sequence of dispatcher calls from fresh tables: definitions and theorems, no functions.

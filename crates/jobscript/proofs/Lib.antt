@@ -1,0 +1,10 @@
+pub mod Few
+pub mod Packs
+pub mod Matches
+pub mod New
+pub mod Records
+pub mod Firsts
+pub mod RowShown
+pub mod Keeps
+pub mod Applied
+pub mod Steps

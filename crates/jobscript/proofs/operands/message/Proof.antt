@@ -1,0 +1,11 @@
+-- `jobscript::operands::message` meets its contract. Assumes nothing.
+use borrow.Author.Needs.{needs}
+use Rattle.laws.proofs.Together.{_·_, _·³_}
+use Rattle.jobscript.proofs.operands.message.Statement.{statement}
+use Rattle.jobscript.proofs.operands.message.Tie as tie
+
+returns : tie.Need-returns
+returns c = rw (← c .u64-at2 .ensures, ← c .before .u64-at .ensures, ← c .before .before .u32-at .ensures)
+
+pub message-spec : {M : Type 1} → statement M
+message-spec = tie.close (tie.spec ·³ (search needs) · returns)

@@ -1,0 +1,55 @@
+//! Beside the tables: for which job each message that waits was accepted. No
+//! answer comes from here; a message that reaches another row ends the run.
+
+use super::dispatcher::Job;
+use super::variants::{Variant, shown};
+use crate::ipc::Message;
+use std::collections::VecDeque;
+
+struct Sentence {
+    job: Job,
+    message: Message,
+}
+
+/// By mailbox, the oldest first.
+#[derive(Default)]
+pub struct Accepted([VecDeque<Sentence>; 32]);
+
+impl Accepted {
+    pub fn put(&mut self, mailbox: usize, job: Job, message: Message) {
+        self.0[mailbox].push_back(Sentence { job, message });
+    }
+
+    /// The oldest message of a mailbox comes out at a row.
+    pub fn given(
+        &mut self,
+        mailbox: usize,
+        message: Message,
+        row: usize,
+        bound: &[Variant],
+    ) -> Result<(), String> {
+        let Some(Sentence { job, message: sent }) = self.0[mailbox].pop_front() else {
+            return Err(format!("row {row} is given {message:?}, which nobody sent"));
+        };
+        let (number, tag) = (job.number, shown(job.tag));
+        if sent != message {
+            return Err(format!(
+                "job {number} ({tag}) was sent {sent:?}, and row {row} is given {message:?}"
+            ));
+        }
+        match bound.iter().find(|variant| variant.tag == job.tag) {
+            Some(variant) if variant.row == row => Ok(()),
+            Some(variant) => Err(format!(
+                "a message accepted for job {number} reaches row {row}, and {tag} is bound to row {}",
+                variant.row
+            )),
+            None => Err(format!(
+                "a message accepted for job {number} reaches row {row}, and {tag} is not bound"
+            )),
+        }
+    }
+
+    pub fn dropped(&mut self, mailbox: usize) {
+        self.0[mailbox].clear();
+    }
+}
