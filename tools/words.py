@@ -98,7 +98,7 @@ def shown(operation, values):
     """The values of an accepted operation."""
     if operation == 1:
         return f"send id {values[0]}, receive id {values[1]}"
-    if operation in (2, 6, 8, 25):
+    if operation in (2, 6, 8, 24, 25):
         return ", wakes " + (" and ".join(tasks(values)) or "nobody")
     if operation == 3:
         return message(values)

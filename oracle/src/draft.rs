@@ -7,6 +7,8 @@ use crate::records::{self, HEAD, MOST, Played};
 /// What drawn records are played on, and how they are drawn.
 pub trait Drawn: Played {
     const KINDS: &'static [Kind];
+    /// Kinds that are never damaged, so that the damaged stay what they are.
+    const FURTHER: &'static [Kind] = &[];
     /// How long what `finish` puts is.
     const LAST: usize = 0;
     /// More than the records of a family are long.
@@ -23,7 +25,7 @@ pub trait Drawn: Played {
     fn operands(d: &mut Draft<Self>, edge_in: u64, operation: u8) -> Vec<u8>;
 
     /// A whole sequence of records that seldom comes by itself.
-    fn family(d: &mut Draft<Self>);
+    fn family(d: &mut Draft<Self>, kind: &Kind);
 
     /// The last records.
     fn finish(_d: &mut Draft<Self>) {}
@@ -103,7 +105,7 @@ impl<D: Drawn> Draft<D> {
             && self.random.below(n) == 0
             && self.room() > D::FAMILY
         {
-            return D::family(self);
+            return D::family(self, kind);
         }
         let operation = self.random.share(kind.shares);
         if record_length::<D>(operation) <= self.room() {

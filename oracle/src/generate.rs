@@ -39,8 +39,12 @@ pub fn generate<D: Damaged>(seed: u64, name: &str) -> Result<Vec<u8>, String> {
     })
 }
 
+fn kinds<D: Drawn>() -> impl Iterator<Item = &'static Kind> {
+    D::KINDS.iter().chain(D::FURTHER)
+}
+
 fn find<D: Drawn>(name: &str) -> Option<&'static Kind> {
-    D::KINDS.iter().find(|kind| kind.name == name)
+    kinds::<D>().find(|kind| kind.name == name)
 }
 
 /// At most so many steps, and at most the greatest length.
@@ -85,7 +89,8 @@ pub fn many<D: Damaged>(
 }
 
 fn name<D: Drawn>(i: usize) -> String {
-    let kind = |i: usize| D::KINDS[i % D::KINDS.len()].name;
+    let kinds: Vec<_> = kinds::<D>().collect();
+    let kind = |i: usize| kinds[i % kinds.len()].name;
     match (i % 256, i % 16) {
         (0, _) => "empty".into(),
         (1, _) => "full".into(),

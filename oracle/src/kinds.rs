@@ -47,6 +47,7 @@ impl Drawn for Tables {
         Kind::new("mints", MINTS, 24, None),
         Kind::new("edges", ALL, 3, None),
     ];
+    const FURTHER: &'static [Kind] = &[Kind::new("spawns", ROWS, 16, Some(8))];
     const FAMILY: usize = 200;
     type Known = Known;
 
@@ -77,8 +78,8 @@ impl Drawn for Tables {
     }
 
     /// Up to four ephemeral channels, a row that holds them, a waiter on each; then
-    /// the holds go, all at once.
-    fn family(d: &mut Draft<Self>) {
+    /// the holds go, all at once. A spawn takes them and may give them back.
+    fn family(d: &mut Draft<Self>, kind: &Kind) {
         let before = d.known.live.len();
         let members = 1 + d.random.below(4);
         (0..members).for_each(|_| d.push(1, &[1]));
@@ -93,8 +94,10 @@ impl Drawn for Tables {
         for (i, [_, receive]) in made.iter().enumerate() {
             d.push(4, &[receive.to_le_bytes(), [i as u8, 0, 1, 0]].concat());
         }
-        match d.random.below(2) {
-            0 => d.push(8, &list),
+        match (kind.name, d.random.below(2)) {
+            ("spawns", 0) => d.push(24, &[row, list].concat()),
+            ("spawns", _) => d.push(24, &[row, vec![0; 20]].concat()),
+            (_, 0) => d.push(8, &list),
             _ => d.push(25, &row),
         }
     }

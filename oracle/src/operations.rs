@@ -4,7 +4,8 @@ use crate::answers::*;
 use crate::cap::CapId;
 use crate::capslots::TransferError;
 use crate::records::Operands;
-use crate::tables::{ROWS, Tables};
+use crate::tables::{ROWS, SLOTS, Tables};
+use std::array;
 use std::panic::{self, AssertUnwindSafe};
 
 pub fn apply(t: &mut Tables, operation: u8, mut o: Operands) -> Result<Answer, String> {
@@ -65,16 +66,25 @@ fn on_rows(t: &mut Tables, operation: u8, mut o: Operands) -> Answer {
         17 => no(transfer(t, row, o.small(), o.small(), o.small())),
         18 => (0, ids(t.rows.drain(row))),
         24 | 25 if row >= ROWS => no(BAD_ROW),
-        24 => {
-            let list = o.list();
-            t.rows.seed(row, &list);
-            t.channels.register(&list);
-            no(0)
-        }
-        25 => (0, waiters(t.channels.release(&t.rows.drain(row)))),
+        24 => (0, spawn(t, row, &o.list())),
+        25 => (0, let_go(t, row)),
         26 => no(give(t, row, o.small(), o.id())),
         _ => unreachable!("operation {operation} is on no row"),
     }
+}
+
+/// Drains a row and releases its four; the waiters that this takes out.
+fn let_go(t: &mut Tables, row: usize) -> Vec<u64> {
+    waiters(t.channels.release(&t.rows.drain(row)))
+}
+
+/// Lets go of a row, seeds it, and registers what is then in it.
+fn spawn(t: &mut Tables, row: usize, list: &[Option<CapId>]) -> Vec<u64> {
+    let woken = let_go(t, row);
+    t.rows.seed(row, list);
+    let present: [_; SLOTS] = array::from_fn(|slot| t.rows.get(row, slot).ok());
+    t.channels.register(&present);
+    woken
 }
 
 fn new(t: &mut Tables, sizes: [usize; 3]) -> Result<Answer, String> {

@@ -21,7 +21,8 @@ fn paired(channels: Channels, rows: Rows) -> Both {
 fn spawn(b: Both, w: &[u64]) -> Both {
     let x = joined::spawn(b.channels, b.rows, size(w, 0), rest(w, 1));
     let a = x.answer;
-    print::answer(a.shown());
+    let waiters = x.waiters;
+    print::answer(a.shown(waiters));
     paired(x.channels, x.rows)
 }
 

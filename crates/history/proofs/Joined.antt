@@ -1,21 +1,24 @@
 -- The joined steps are runs of calls: `joined-runs` and `joined-tell`. Assumes nothing.
 use mathlib.Core.Path.{_≡_, refl, sym, ap, _∙_}
 use mathlib.Core.Bool.{Bool, true, false}
-use mathlib.Core.List.{List, [], _∷_}
-use Prim.Native.Nat.{ℕ, _+_, _/_, _≤_, _<_}
+use mathlib.Core.List.{List, [], _∷_, map}
+use Prim.Native.Nat.{ℕ, _+_, _/_, _%_, _≤_, _<_}
 use native.Mathlib.Omega.{arith}
 use borrow.Author.Tests.{ne-eqb, ltb-true, ltb-false}
-use lib.Dec.{ltb}
+use lib.Dec.{eqb, ltb}
 use lib.ListN.{getD, length}
 use Rattle.laws.specs.Pick.{pick}
 use Rattle.laws.specs.Every.{every}
+use Rattle.laws.proofs.Cases.{all-pick}
 use Rattle.cap.specs.Slot.{vacantSlot, holding}
-use Rattle.cap.specs.Word.{wordOf, wordsRead, slotsOf}
+use Rattle.cap.specs.Word.{readWord, wordOf, isWord, orVacant, slotAt, wordsRead, slotsOf}
 use Rattle.cap.specs.declared.CapId.{CapId}
 use Rattle.cap.specs.declared.slot.Slot.{Slot}
-use Rattle.cap.proofs.Words.{holding-back, reads-test}
-use Rattle.capslots.specs.Rows.{drainOf}
-use Rattle.capslots.specs.Table.{freshTable, Shape}
+use Rattle.cap.specs.declared.word.WordAnswer.{WordAnswer}
+use Rattle.cap.specs.declared.word.WordAnswer.the-variants.{Reads}
+use Rattle.cap.proofs.Words.{holding-back, vacant-back, reads-test}
+use Rattle.capslots.specs.Rows.{rowOf, drainOf}
+use Rattle.capslots.specs.Table.{rowAt, freshTable, Shape}
 use Rattle.capslots.specs.declared.Table.{Table as Rows}
 use Rattle.capslots.specs.declared.Drained.{Drained}
 use Rattle.capslots.proofs.Ways.{drain-ways}
@@ -33,16 +36,17 @@ use Rattle.joined.specs.declared.answers.Leaving.{Leaving}
 use Rattle.joined.specs.declared.answers.LeaveAnswer as leave
 use Rattle.joined.specs.declared.answers.Giving.{Giving}
 use Rattle.joined.specs.declared.answers.GiveAnswer as give
-use Rattle.joined.proofs.Register.{list-registered, word-registered}
+use Rattle.joined.proofs.Register.{list-registered, word-registered, seeded-row}
 use Rattle.joined.proofs.Ways.{spawn-ways, leave-ways, give-ways}
 use Rattle.history.specs.Calls as calls
 use Rattle.history.specs.Calls.{Call, register, fourSlots, releasing, answer, after}
-use Rattle.history.specs.World.{World, run, Reached}
-use Rattle.history.specs.Joined.{ifAccepted, registering, spawnCalls, leaveCalls, giveCalls, JoinedRuns, JoinedTell}
+use Rattle.history.specs.World.{World, step, run, Reached}
+use Rattle.history.specs.Lent.{lending}
+use Rattle.history.specs.Joined.{ifAccepted, registering, spawnCalls, leaveCalls, giveCalls, SpawnTold, JoinedRuns, JoinedTell}
 use Rattle.history.proofs.Kept.{step-table}
 use Rattle.history.proofs.Tidy.{Tidy, reached-tidy}
 
--- ---- no call, and one
+-- ---- no call, one, and two
 pub not-accepted : (w : World) (n : ℕ) (cs : List Call) → (n ≡ 0 → ⊥) → run w (ifAccepted n cs) .table ≡ w .table
 unfolding run ifAccepted pick
 not-accepted w n cs h = rw (ne-eqb n 0 h)
@@ -50,6 +54,14 @@ not-accepted w n cs h = rw (ne-eqb n 0 h)
 pub one-call : (w : World) (c : Call) → run w (c ∷ []) .table ≡ after (w .table) c
 unfolding run
 one-call w c = step-table w c
+
+two-calls : (w : World) (c d : Call) → run w (c ∷ d ∷ []) .table ≡ after (after (w .table) c) d
+unfolding run
+two-calls w c d = step-table (step w c) d ∙ ap (λ u. after u d) (step-table w c)
+
+accepted-two : (w : World) (c d : Call) → run w (ifAccepted 0 (c ∷ d ∷ [])) .table ≡ after (after (w .table) c) d
+unfolding ifAccepted pick
+accepted-two w c d = two-calls w c d
 
 accepted : (w : World) (c : Call) → run w (ifAccepted 0 (c ∷ [])) .table ≡ after (w .table) c
 unfolding ifAccepted pick
@@ -87,6 +99,34 @@ drained-four rows r shape = drain-ways (λ (x : Drained). length (x .slots) ≡ 
 pub row-four : (rows : Rows) (r : ℕ) → Shape rows → let l = drainOf rows r .slots in fourSlots (getD l 0 vacantSlot) (getD l 1 vacantSlot) (getD l 2 vacantSlot) (getD l 3 vacantSlot) ≡ l
 row-four rows r shape = four (drainOf rows r .slots) (drained-four rows r shape)
 
+-- ---- the slots that a list gives a row, as words, read back as they are
+slot-back : (w : ℕ) → let s = orVacant (readWord w) in readWord (wordOf s) ≡ Reads s
+unfolding readWord orVacant
+slot-back w =
+    all-pick Back (eqb w 0) _ _ (λ _. vacant-back) (λ _.
+    all-pick Back (eqb (w / 4294967296) 1) _ _ (λ _. holding-back (record { raw = w % 4294967296 }) (omega arith)) (λ _. vacant-back))
+  where
+    Back : WordAnswer → Type 0
+    Back a = readWord (wordOf (orVacant a)) ≡ Reads (orVacant a)
+
+module _ (words : List ℕ) where
+  row-reads : wordsRead (map wordOf (rowOf words .slots)) ≡ true
+  unfolding every
+  row-reads =
+      let at : (i : ℕ) → isWord (wordOf (slotAt words i)) ≡ true = λ i. reads-test (wordOf (slotAt words i)) (slotAt words i) (slot-back (getD words i 0)) in
+      rw (at 0, at 1, at 2, at 3)
+
+  row-back : slotsOf (map wordOf (rowOf words .slots)) ≡ rowOf words .slots
+  unfolding slotsOf orVacant
+  row-back =
+      let at : (i : ℕ) → orVacant (readWord (wordOf (slotAt words i))) ≡ slotAt words i = λ i. ap orVacant (slot-back (getD words i 0)) in
+      λ j. at 0 j ∷ at 1 j ∷ at 2 j ∷ at 3 j ∷ []
+
+  -- registered, they are the four slots registered
+  row-held : (t : Table) → after t (lending (rowOf words .slots)) ≡ registeredAll t (rowOf words .slots)
+  unfolding after
+  row-held t = list-registered t (map wordOf (rowOf words .slots)) row-reads ∙ ap (registeredAll t) row-back
+
 -- ---- an id of 32 bits reads as a word, and one past them opens nothing in a run
 id-reads : (c : CapId) → c .raw < 4294967296 → wordsRead (wordOf (holding c) ∷ []) ≡ true
 unfolding every
@@ -107,10 +147,6 @@ module _ (w : World) (rows : Rows) where
   t = w .table
 
   -- what their calls leave
-  list-held : (words : List ℕ) → wordsRead words ≡ true → after t (register words) ≡ registeredAll t (slotsOf words)
-  unfolding after
-  list-held words h = list-registered t words h
-
   row-freed : (r : ℕ) → Shape rows → after t (releasing (drainOf rows r .slots)) ≡ releaseOf t (drainOf rows r .slots) .table
   unfolding after
   row-freed r shape = ap (λ (l : List Slot). releaseOf t l .table) (row-four rows r shape)
@@ -121,11 +157,14 @@ module _ (w : World) (rows : Rows) where
   id-held c τ false e = let h = ltb-false (c .raw) 4294967296 e in long-id t c h ∙ sym (shut-long w c τ h)
 
   -- what they leave
-  spawn-run : (r : ℕ) (words : List ℕ) → run w (spawnCalls t rows r words) .table ≡ spawnOf t rows r words .channels
+  spawn-run : (r : ℕ) (words : List ℕ) → Shape rows → run w (spawnCalls t rows r words) .table ≡ spawnOf t rows r words .channels
   unfolding spawnCalls
-  spawn-run r words =
-      spawn-ways t rows (λ (x : Spawning). run w (ifAccepted (spawnNumber (x .answer)) (register words ∷ [])) .table ≡ x .channels) r words
-      (λ a n. not-accepted w (spawnNumber a) _ (spawn-number a n)) (λ h _. accepted w (register words) ∙ list-held words h)
+  spawn-run r words shape =
+      spawn-ways t rows (λ (x : Spawning). run w (ifAccepted (spawnNumber (x .answer)) (releasing (drainOf rows r .slots) ∷ lending (rowAt (x .rows) r .slots) ∷ [])) .table ≡ x .channels) r words
+      (λ a n. not-accepted w (spawnNumber a) _ (spawn-number a n))
+      (λ h l.
+      let filled = seeded-row rows r words shape h l in
+      accepted-two w (releasing (drainOf rows r .slots)) _ ∙ rw (filled, row-freed r shape) (row-held words (releaseOf t (drainOf rows r .slots) .table)))
 
   leave-run : (r : ℕ) → Shape rows → run w (leaveCalls t rows r) .table ≡ leaveOf t rows r .channels
   unfolding leaveCalls
@@ -140,7 +179,7 @@ module _ (w : World) (rows : Rows) where
       (λ a n. not-accepted w (giveNumber a) _ (give-number a n)) (λ _. accepted w (registering c) ∙ id-held c τ (ltb (c .raw) 4294967296) refl)
 
 pub joined-runs : JoinedRuns
-joined-runs w reached rows shape = record { spawn = spawn-run w rows; leave = λ r. leave-run w rows r shape; give = λ r s c. give-run w rows r s c (reached-tidy reached) }
+joined-runs w reached rows shape = record { spawn = λ r words. spawn-run w rows r words shape; leave = λ r. leave-run w rows r shape; give = λ r s c. give-run w rows r s c (reached-tidy reached) }
 
 -- an id registered by itself, as a give does
 pub id-registered : (w : World) → Reached w → (c : CapId) → after (w .table) (registering c) ≡ registered (w .table) (holding c)
@@ -152,14 +191,20 @@ unfolding answer registerOf pick
 register-reads t words h = rw h
 
 module _ (t : Table) (rows : Rows) where
-  spawn-told : (r : ℕ) (words : List ℕ) → spawnOf t rows r words .answer ≡ spawn.the-variants.Spawned → answer t (register words) ≡ calls.registered Registered
-  spawn-told r words =
-      spawn-ways t rows (λ (x : Spawning). x .answer ≡ spawn.the-variants.Spawned → answer t (register words) ≡ calls.registered Registered) r words
-      (λ _ n e. absurd (n e)) (λ h _ _. register-reads t words h)
-
   row-wakes : (r : ℕ) → Shape rows → answer t (releasing (drainOf rows r .slots)) ≡ calls.released Released (releaseOf t (drainOf rows r .slots) .waiters)
   unfolding answer releaseOf
   row-wakes r shape = ap (λ (l : List Slot). calls.released Released (releaseOf t l .waiters)) (row-four rows r shape)
+
+  spawn-told : (r : ℕ) (words : List ℕ) → Shape rows → spawnOf t rows r words .answer ≡ spawn.the-variants.Spawned → SpawnTold t rows r words
+  spawn-told r words shape e =
+      record {
+        first =
+            spawn-ways t rows (λ (x : Spawning). x .answer ≡ spawn.the-variants.Spawned → answer t (releasing (drainOf rows r .slots)) ≡ calls.released Released (x .waiters)) r words
+            (λ _ n q. absurd (n q)) (λ _ _ _. row-wakes r shape) e;
+        then = λ u.
+            spawn-ways t rows (λ (x : Spawning). x .answer ≡ spawn.the-variants.Spawned → answer u (lending (rowAt (x .rows) r .slots)) ≡ calls.registered Registered) r words
+            (λ _ n q. absurd (n q)) (λ h l _. rw (seeded-row rows r words shape h l) (register-reads u (map wordOf (rowOf words .slots)) (row-reads words))) e;
+      }
 
   leave-told : (r : ℕ) → Shape rows → leaveOf t rows r .answer ≡ leave.the-variants.Left → answer t (releasing (drainOf rows r .slots)) ≡ calls.released Released (leaveOf t rows r .waiters)
   leave-told r shape =
@@ -169,7 +214,7 @@ module _ (t : Table) (rows : Rows) where
 pub joined-tell : JoinedTell
 joined-tell t rows shape =
     record {
-      spawn = spawn-told t rows;
+      spawn = λ r words. spawn-told t rows r words shape;
       leave = λ r. leave-told t rows r shape;
       give = λ r s c h _. register-reads t (wordOf (holding c) ∷ []) (id-reads c h);
     }

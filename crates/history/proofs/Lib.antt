@@ -42,3 +42,4 @@ pub mod Idle
 pub mod ExamplesJoined
 pub mod ExamplesLog
 pub mod ExamplesLines
+pub mod ExampleSpawns

@@ -1,12 +1,14 @@
 -- The line of an operation shows what its calls answer, `operations-tell`. Assumes nothing.
 use mathlib.Core.Path.{_≡_, refl, sym, ap, subst, _∙_}
-use mathlib.Core.List.{List, [], _∷_, append-nil, List·Memᴰ·eq-of-singleton}
+use mathlib.Core.List.{List, [], _∷_, _++_, append-nil, List·Memᴰ·eq-of-singleton, List·Memᴰ·cases-cons}
+use mathlib.Core.Logic.{⊎-elim}
 use Prim.Native.Nat.{ℕ, _<_}
 use native.Mathlib.Omega.{arith}
 use borrow.Author.Tests.{ne-eqb}
 use Rattle.laws.specs.Pick.{pick}
 use Rattle.capslots.specs.Table.{Shape}
-use Rattle.joined.specs.Answers.{spawnNumber, leaveNumber, leaveValues, giveNumber}
+use Rattle.ipc_rules.specs.declared.state.Table.{Table}
+use Rattle.joined.specs.Answers.{spawnNumber, spawnValues, leaveNumber, leaveValues, giveNumber}
 use Rattle.joined.specs.Steps.{spawnOf, leaveOf, giveOf}
 use Rattle.joined.specs.declared.answers.SpawnAnswer as spawn
 use Rattle.joined.specs.declared.answers.LeaveAnswer as leave
@@ -22,7 +24,7 @@ use Rattle.operations.specs.Joined.{spawnDone, leaveDone, giveDone}
 use Rattle.operations.specs.Operands.{idAt}
 use Rattle.operations.specs.declared.Tables.{Tables}
 use Rattle.history.specs.Calls.{Call, answer}
-use Rattle.history.specs.World.{World, answers}
+use Rattle.history.specs.World.{World, step, answers}
 use Rattle.history.specs.Numbers.{numberOf, valuesOf}
 use Rattle.history.specs.Joined.{ifAccepted, spawnCalls, leaveCalls, giveCalls, JoinedTold}
 use Rattle.history.specs.Operations.{allCalls, callsOf}
@@ -54,7 +56,23 @@ module _ (log : List ℕ) (t : Tables) where
     values = v ∙ ap (λ u. valuesOf (answer u x)) (sym e) ∙ sym (append-nil _);
   })
 
-  -- an accepted step makes its call
+  -- two calls, of which the second shows no values on any table
+  two : (d : Done) (x y : Call) → d .number ≡ numberOf (answer (t .channels) x) → ((u : Table) → d .number ≡ numberOf (answer u y)) →
+      d .values ≡ valuesOf (answer (t .channels) x) → ((u : Table) → valuesOf (answer u y) ≡ []) → Told d (x ∷ y ∷ [])
+  unfolding answers allValues
+  two d x y n m v z w e c ds q = subst (λ (cs : List Call). Tells w cs d) q (record {
+    number = λ a k. ⊎-elim (λ p. n ∙ ap numberOf (ap (λ u. answer u x) (sym e) ∙ sym p)) (λ j. m (step w x .table) ∙ ap numberOf (sym (List·Memᴰ·eq-of-singleton j))) (List·Memᴰ·cases-cons k);
+    values =
+        v ∙ ap (λ u. valuesOf (answer u x)) (sym e) ∙ sym (append-nil _)
+        ∙ ap (λ (l : List ℕ). valuesOf (answer (w .table) x) ++ (l ++ [])) (sym (z (step w x .table)));
+  })
+
+  -- an accepted step makes its calls
+  made-two : (d : Done) (n : ℕ) (x y : Call) → n ≡ 0 → d .number ≡ numberOf (answer (t .channels) x) → ((u : Table) → d .number ≡ numberOf (answer u y)) →
+      d .values ≡ valuesOf (answer (t .channels) x) → ((u : Table) → valuesOf (answer u y) ≡ []) → Told d (ifAccepted n (x ∷ y ∷ []))
+  unfolding ifAccepted pick
+  made-two d n x y e a b v z = rw e (two d x y a b v z)
+
   made : (d : Done) (n : ℕ) (x : Call) → n ≡ 0 → d .number ≡ numberOf (answer (t .channels) x) → d .values ≡ valuesOf (answer (t .channels) x) → Told d (ifAccepted n (x ∷ []))
   unfolding ifAccepted pick
   made d n x e a v = rw e (one d x a v)
@@ -72,7 +90,8 @@ module _ (log : List ℕ) (t : Tables) where
     unfolding spawnDone spawnCalls
     spawn-tells spawn.the-variants.Spawned e =
         let x = told .spawn (byteAt log 3) (listWords log 4) e in
-        made _ _ _ (ap spawnNumber e) (ap spawnNumber e ∙ ap numberOf (sym x)) (ap valuesOf (sym x))
+        made-two _ _ _ _ (ap spawnNumber e) (ap spawnNumber e ∙ ap numberOf (sym (x .first))) (λ u. ap spawnNumber e ∙ ap numberOf (sym (x .then u)))
+        (ap (λ a. spawnValues a (spawnOf (t .channels) (t .rows) (byteAt log 3) (listWords log 4) .waiters)) e ∙ ap valuesOf (sym (x .first))) (λ u. ap valuesOf (x .then u))
     spawn-tells spawn.the-variants.BadWord e = unmade _ _ _ (λ z. omega (arith, ap spawnNumber e))
     spawn-tells spawn.the-variants.BadRow e = unmade _ _ _ (λ z. omega (arith, ap spawnNumber e))
     spawn-tells spawn.the-variants.BadTable e = unmade _ _ _ (λ z. omega (arith, ap spawnNumber e))

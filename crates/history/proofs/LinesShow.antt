@@ -18,7 +18,7 @@ use Rattle.operations.specs.Done.{Done}
 use Rattle.operations.specs.Operands.{idAt, taskAt}
 use Rattle.operations.specs.declared.Tables.{Tables}
 use Rattle.history.specs.Calls.{Call, receive, park}
-use Rattle.history.specs.World.{World}
+use Rattle.history.specs.World.{World, step}
 use Rattle.history.specs.Traffic.{byReceive, byPark, given, allAccepted, allGiven, Spares, none, more}
 use Rattle.history.specs.Joined.{ifAccepted, spawnCalls, leaveCalls, giveCalls}
 use Rattle.history.specs.Operations.{Operation, allCalls, callsOf, Logged, Follows}
@@ -71,6 +71,12 @@ module _ (log : List ℕ) (t : Tables) where
   unfolding allGiven
   silent line c h w e n x g = let y : [] ≡ x ∷ [] = sym (ap (λ (l : List Message). l ++ []) (h w n)) ∙ g in let z : _≡_ {A = ℕ} 0 1 = cc in absurd (omega arith)
 
+  -- nor do two
+  silent-two : (line : List ℕ) (c d : Call) → ((w : World) (n : ℕ) → given w n c ≡ []) → ((w : World) (n : ℕ) → given w n d ≡ []) → Giver line (c ∷ d ∷ [])
+  unfolding allGiven
+  silent-two line c d h k w e n x g =
+      let y : [] ≡ x ∷ [] = sym (λ i. h w n i ++ (k (step w c) n i ++ [])) ∙ g in let z : _≡_ {A = ℕ} 0 1 = cc in absurd (omega arith)
+
   -- a call that gives
   alone : (line : List ℕ) (c : Call) → ((w : World) → w .table ≡ t .channels → (n : ℕ) (x : Message) → given w n c ≡ x ∷ [] → ShowsMessage x line) → Giver line (c ∷ [])
   unfolding allGiven allAccepted
@@ -87,10 +93,15 @@ module _ (log : List ℕ) (t : Tables) where
   unfolding given parkDone
   parks = alone _ _ (λ w e n x g. park-line (ap (λ (a : park.ParkAnswer). 4 ∷ parkNumber a ∷ parkValues a) (ap (λ u. parkOf u (idAt log 3) (taskAt log 7) .answer) (sym e) ∙ given-of _ _ x g)))
 
-  -- a joined step
+  -- a leave, a give
   joins : (line : List ℕ) (m : ℕ) (c : Call) → ((w : World) (n : ℕ) → given w n c ≡ []) → Giver line (ifAccepted m (c ∷ []))
   unfolding ifAccepted
   joins line m c h = all-pick (Giver line) (eqb m 0) (c ∷ []) [] (λ _. silent line c h) (λ _. mute line)
+
+  -- a spawn
+  joins-two : (line : List ℕ) (m : ℕ) (c d : Call) → ((w : World) (n : ℕ) → given w n c ≡ []) → ((w : World) (n : ℕ) → given w n d ≡ []) → Giver line (ifAccepted m (c ∷ d ∷ []))
+  unfolding ifAccepted
+  joins-two line m c d h k = all-pick (Giver line) (eqb m 0) (c ∷ d ∷ []) [] (λ _. silent-two line c d h k) (λ _. mute line)
 
   all-give : Along GiverAt 0 (allDone log t) (allCalls log t)
   unfolding given spawnCalls leaveCalls giveCalls
@@ -119,7 +130,7 @@ module _ (log : List ℕ) (t : Tables) where
       mute _ ▸
       mute _ ▸
       mute _ ▸
-      joins _ _ _ (λ _ _. refl) ▸
+      joins-two _ _ _ _ (λ _ _. refl) (λ _ _. refl) ▸
       joins _ _ _ (λ _ _. refl) ▸
       joins _ _ _ (λ _ _. refl) ▸
       silent _ _ (λ _ _. refl) ▸

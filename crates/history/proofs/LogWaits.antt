@@ -1,31 +1,40 @@
--- Demand 3's sentences on waits in a log, `log-waits-named`. Assumes nothing.
+-- Demand 3's sentences on waits in a log, `log-waits-named`, and of a spawn's release, `spawns-name`. Assumes nothing.
 use mathlib.Core.Path.{_≡_, refl, sym, ap, subst, _∙_}
 use mathlib.Core.Bool.{true, false, not}
 use mathlib.Core.List.{List, [], _∷_, _++_}
 use mathlib.Core.Logic.{_⊎_, inl, inr, ⊎-elim}
-use Prim.Native.Nat.{ℕ}
+use Prim.Native.Nat.{ℕ, _-_, _≤_}
 use native.Mathlib.Omega.{arith}
-use borrow.Author.Tests.{not-true}
+use borrow.Author.Tests.{not-true, eq-eqb}
+use Rattle.laws.specs.Pick.{pick}
 use Rattle.laws.proofs.Every.{and-left, and-right, and-both}
+use Rattle.cap.specs.declared.slot.Slot.{Slot}
+use Rattle.capslots.specs.Rows.{drainOf}
 use Rattle.ipc_rules.specs.Answers.{parkNumber, parkValues}
 use Rattle.ipc_rules.specs.Receive.{parkOf}
+use Rattle.ipc_rules.specs.Views.{holdCount, ephemeralOf, heldIn}
 use Rattle.ipc_rules.specs.declared.state.TaskId.{TaskId}
 use Rattle.ipc_rules.specs.declared.answers.ParkAnswer.{ParkAnswer}
 use Rattle.ipc_rules.specs.declared.answers.ParkAnswer.the-variants.{Parked, Given, BadCap, Busy, Cancelled, BadTable}
+use Rattle.logread.specs.Little.{byteAt}
+use Rattle.logread.specs.Lists.{listWords}
 use Rattle.operations.specs.Apply.{applyOf}
 use Rattle.operations.specs.Channels.{parkDone}
+use Rattle.operations.specs.Joined.{spawnDone}
 use Rattle.operations.specs.Operands.{idAt, taskAt}
 use Rattle.operations.specs.declared.Tables.{Tables}
-use Rattle.history.specs.Calls.{Call, park, parked, answer}
+use Rattle.history.specs.Calls.{Call, park, releasing, parked, answer}
 use Rattle.history.specs.World.{World, run, step}
-use Rattle.history.specs.Waits.{Waits, Quiet, none, more, First, ParkedOn}
+use Rattle.history.specs.Waits.{Waits, ends, Quiet, none, more, First, ParkedOn}
+use Rattle.history.specs.Joined.{ifAccepted, filling, spawnCalls}
 use Rattle.history.specs.Operations.{Operation, doneBy, callsOf, renews, Logged, operate, operated, beginning, Follows, lasting, callsOver}
-use Rattle.history.specs.Lines.{lineIn}
-use Rattle.history.specs.LogWaits.{parking, FirstIn, EndedIn, FateIn, waits, ended, NamedInLog, LogWaitsNamed}
-use Rattle.history.proofs.Kept.{run-on}
+use Rattle.history.specs.Lines.{lineIn, ClearsTask}
+use Rattle.history.specs.LogWaits.{parking, FirstIn, EndedIn, FateIn, waits, ended, NamedInLog, LogWaitsNamed, spawning, NamedBySpawn, SpawnsName}
+use Rattle.history.proofs.Kept.{step-sound, run-on, run-sound, reached-sound}
 use Rattle.history.proofs.Waits.{named-first, quiet-or-first, parked-named}
 use Rattle.history.proofs.Operations.{goes-on, other-number, operations-follow, operated-follow, operations-run, logs-follow}
-use Rattle.history.proofs.Lines.{same-rest}
+use Rattle.history.proofs.Joined.{row-four}
+use Rattle.history.proofs.Lines.{same-head, same-rest}
 use Rattle.history.proofs.LinesName.{names}
 
 -- the park of a log is the call
@@ -88,10 +97,11 @@ module _ (n k : ℕ) (x : TaskId) where
   ends-in u f h o l e =
       let a = named-first (u .world) (f .reached) n k x h (e .before) (e .quiet) .1 (e .call) (e .ender) in
       let r = names u f o n k x e (a .named) in
-      let whole : callsOf o (u .tables) ≡ e .before ++ (e .call ∷ []) = e .split ∙ ap (λ (l : List Call). e .before ++ (e .call ∷ l)) (r .last) in
-      let q : operate u o .world ≡ step (run (u .world) (e .before)) (e .call) =
-      goes-on u o l ∙ ap (run (u .world)) whole ∙ run-on (u .world) (e .before) (e .call ∷ []) in
-      record { named = r .named; over = λ j y. a .over j (subst (λ w. Waits w n j x) q y) }
+      let v = step (run (u .world) (e .before)) (e .call) in
+      let σ = step-sound (run (u .world) (e .before)) (e .call) (run-sound (u .world) (e .before) (reached-sound (f .reached))) in
+      let q : operate u o .world ≡ run v (e .behind) =
+      goes-on u o l ∙ ap (run (u .world)) (e .split) ∙ run-on (u .world) (e .before) (e .call ∷ e .behind) in
+      record { named = r .named; over = λ j y. a .over j (r .over v σ j (subst (λ w. Waits w n j x) q y)) }
 
   fate-in : (v : Logged) → Follows v → Waits (v .world) n k x → (later : List Operation) → lasting later ≡ true → FateIn v n k x later
   fate-in v f h later l =
@@ -116,3 +126,39 @@ module _ (s : Logged) (f : Follows s) (log : List ℕ) where
 
 pub log-waits-named : LogWaitsNamed
 log-waits-named before log e = let s = operated beginning before in let f = logs-follow before in named-in-log s f log (parked-on s f log e)
+
+-- ---- a spawn of the row where all holds stand
+module _ (s : Logged) (f : Follows s) (n k : ℕ) (x : TaskId) (log : List ℕ) where
+  abbrev row : List Slot
+  row = drainOf (s .tables .rows) (byteAt log 3) .slots
+
+  abbrev fills : Call
+  fills = filling (s .tables .channels) (s .tables .rows) (byteAt log 3) (listWords log 4)
+
+  -- it makes both its calls
+  both-calls : doneBy (spawning log) (s .tables) .number ≡ 0 → callsOf (spawning log) (s .tables) ≡ releasing row ∷ fills ∷ []
+  unfolding applyOf spawnDone callsOf spawnCalls ifAccepted pick
+  both-calls z = rw z
+
+  -- of which the release ends the wait
+  frees-last : ephemeralOf (s .world .table) k ≡ true → holdCount (s .world .table) k ≤ heldIn (s .world .table) k row → ends (s .world) n k x (releasing row) ≡ true
+  unfolding ends
+  frees-last e l =
+      let z : holdCount (s .world .table) k - heldIn (s .world .table) k row ≡ 0 = omega arith in
+      rw (row-four (s .tables .rows) (byteAt log 3) (f .rows)) (and-both (ephemeralOf (s .world .table) k) _ e (eq-eqb _ _ z))
+
+  -- its line is no clearing's
+  no-clearing : ClearsTask log x (lineIn s (spawning log)) → ⊥
+  no-clearing c = let q : _≡_ {A = ℕ} 24 10 = same-head (c .shows) in omega arith
+
+  named-by-spawn : Waits (s .world) n k x → ephemeralOf (s .world .table) k ≡ true → holdCount (s .world .table) k ≤ heldIn (s .world .table) k row →
+      doneBy (spawning log) (s .tables) .number ≡ 0 → NamedBySpawn s n k x log
+  unfolding run
+  named-by-spawn h e l z =
+      let first : First (s .world) n k x (callsOf (spawning log) (s .tables)) =
+      record { before = []; call = releasing row; behind = fills ∷ []; split = both-calls z; quiet = none; ender = frees-last e l } in
+      let o = ends-in n k x s f h (spawning log) (other-number 23 log) first in
+      record { named = ⊎-elim (λ a. a) (λ c. absurd (no-clearing c)) (o .named); over = o .over }
+
+pub spawns-name : SpawnsName
+spawns-name before n k x h e log l z = named-by-spawn (operated beginning before) (logs-follow before) n k x log h e l z

@@ -4,6 +4,7 @@ use mathlib.Core.Path.{_≡_, refl, ap, _∙_}
 use mathlib.Core.List.{List, [], _∷_}
 use Prim.Native.Nat.{ℕ}
 use Rattle.cap.specs.declared.CapId.{CapId}
+use Rattle.capslots.specs.Rows.{drainOf}
 use Rattle.capslots.specs.Table.{Shape}
 use Rattle.capslots.specs.declared.Table.{Table as Rows}
 use Rattle.capslots.proofs.Calls.{seed-shape, install-shape, drain-shape}
@@ -24,7 +25,7 @@ use Rattle.history.proofs.Joined.{one-call, joined-runs}
 -- ---- the rows keep their shape
 module _ (t : Table) (u : Rows) (shape : Shape u) where
   pub spawn-shape : (r : ℕ) (words : List ℕ) → Shape (spawnOf t u r words .rows)
-  spawn-shape r words = spawn-ways t u (λ (x : Spawning). Shape (x .rows)) r words (λ _ _. shape) (λ _ _. seed-shape u r words shape)
+  spawn-shape r words = spawn-ways t u (λ (x : Spawning). Shape (x .rows)) r words (λ _ _. shape) (λ _ _. seed-shape (drainOf u r .table) r words (drain-shape u r shape))
 
   pub leave-shape : (r : ℕ) → Shape (leaveOf t u r .rows)
   leave-shape r = leave-ways t u (λ (x : Leaving). Shape (x .rows)) r (λ _ _. shape) (λ _. drain-shape u r shape)

@@ -162,6 +162,15 @@ module _ (log : List ℕ) (t : Tables) where
   unfolding stateRefusals
   silent op n c h q l w r e = rw (calm c (numberOf (answer (w .table) c)) q (never-busy w r c l), h)
 
+  silent-two : (op n : ℕ) (c d : Call) → stateLine op n ≡ 0 → notesState c ≡ false → listed c no.busy ≡ false → notesState d ≡ false → listed d no.busy ≡ false → Counted op n (c ∷ d ∷ [])
+  unfolding stateRefusals
+  silent-two op n c d h q l p m w r e =
+      rw (calm c (numberOf (answer (w .table) c)) q (never-busy w r c l), calm d (numberOf (answer (step w c .table) d)) p (never-busy (step w c) (then r c) d m), h)
+
+  joins-two : (op n m : ℕ) (c d : Call) → stateLine op n ≡ 0 → notesState c ≡ false → listed c no.busy ≡ false → notesState d ≡ false → listed d no.busy ≡ false → Counted op n (ifAccepted m (c ∷ d ∷ []))
+  unfolding ifAccepted
+  joins-two op n m c d h q l p k = all-pick (Counted op n) (eqb m 0) (c ∷ d ∷ []) [] (λ _. silent-two op n c d h q l p k) (λ _. mute op n h)
+
   joins : (op n m : ℕ) (c : Call) → stateLine op n ≡ 0 → notesState c ≡ false → listed c no.busy ≡ false → Counted op n (ifAccepted m (c ∷ []))
   unfolding ifAccepted
   joins op n m c h q l = all-pick (Counted op n) (eqb m 0) (c ∷ []) [] (λ _. silent op n c h q l) (λ _. mute op n h)
@@ -201,7 +210,7 @@ module _ (log : List ℕ) (t : Tables) where
       mute 21 _ (quiet-line 21 _ refl refl) ▸
       mute 22 _ (quiet-line 22 _ refl refl) ▸
       mute 23 _ (quiet-line 23 _ refl refl) ▸
-      joins 24 _ _ _ (quiet-line 24 _ refl refl) refl refl ▸
+      joins-two 24 _ _ _ _ (quiet-line 24 _ refl refl) refl refl refl refl ▸
       joins 25 _ _ _ (quiet-line 25 _ refl refl) refl refl ▸
       joins 26 _ _ _ (quiet-line 26 _ refl refl) refl refl ▸
       silent 27 _ _ (quiet-line 27 _ refl refl) refl refl ▸

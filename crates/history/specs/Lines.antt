@@ -63,17 +63,24 @@ abbrev pub GivesShown : Type 0
 GivesShown = (s : Logged) → Follows s → (o : Operation) (m : Message) → LinesGive s o m
 
 -- ---- a waiter
--- the line names task x, who waited on mailbox k, as `1 slot epoch`: a send and a revocation in one place, a release and a leave at the
--- place of its turn among four
+-- the turn of who waits on mailbox k when the row that a record names is let go
+abbrev pub rowTurn : Tables → List ℕ → ℕ → ℕ
+rowTurn t bytes k = turnOf (t .channels) k [] (drainOf (t .rows) (byteAt bytes 3) .slots)
+
+-- the line names task x, who waited on mailbox k, as `1 slot epoch`: a send and a revocation in one place, a release, a spawn and a leave
+-- at the place of its turn among four
 pub data NamesTask (t : Tables) (bytes : List ℕ) (k : ℕ) (x : TaskId) (line : List ℕ) : Type 0 where
   send-line : line ≡ 2 ∷ no.none ∷ 1 ∷ x .slot ∷ x .epoch ∷ [] → NamesTask t bytes k x line
   revoke-line : line ≡ 6 ∷ no.none ∷ 1 ∷ x .slot ∷ x .epoch ∷ [] → NamesTask t bytes k x line
   release-line :
       (ws : List Waiter) → line ≡ 8 ∷ no.none ∷ fourWaiterValues ws →
       getD ws (turnOf (t .channels) k [] (listSlots bytes 3)) nobody ≡ waiting x → NamesTask t bytes k x line
+  spawn-line :
+      (ws : List Waiter) → line ≡ 24 ∷ no.none ∷ fourWaiterValues ws →
+      getD ws (rowTurn t bytes k) nobody ≡ waiting x → NamesTask t bytes k x line
   leave-line :
       (ws : List Waiter) → line ≡ 25 ∷ no.none ∷ fourWaiterValues ws →
-      getD ws (turnOf (t .channels) k [] (drainOf (t .rows) (byteAt bytes 3) .slots)) nobody ≡ waiting x → NamesTask t bytes k x line
+      getD ws (rowTurn t bytes k) nobody ≡ waiting x → NamesTask t bytes k x line
 
 -- the record is a clearing of task x, which shows how many it cleared
 pub record ClearsTask (bytes : List ℕ) (x : TaskId) (line : List ℕ) : Type 0 where

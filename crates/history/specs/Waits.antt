@@ -8,7 +8,8 @@
 -- "its revocation": `ends` at `revoke`. The id opens channel n as a revocation asks, by either right.
 -- "if ephemeral, the release that leaves no send hold": `ends` at `release`. The channel was created ephemeral (the mailbox's flag is what
 --     the creation was called with, `KindStays`), and its holds, less those of the four slots that hold its send end, are 0. Holds are the
---     table's count of them, which stops at 4,294,967,295.
+--     table's count of them, which stops at 4,294,967,295. A spawn's release is one too, whatever its register raises after it
+--     (`spawnCalls` in Joined).
 -- "a clearing of that task": `ends` at `clear`. The task that is cleared is x. Such a call answers how many it cleared (`Clears`).
 -- "the first later", "whichever comes first", "sooner": no call before it is one of these (`Quiet`, `First`).
 -- "Nothing else ends the wait": every other call is false in `ends`, and through every run of such calls x waits on. Every run is

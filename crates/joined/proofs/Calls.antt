@@ -1,12 +1,12 @@
--- What each joined step leaves: of the channels a run of registers or releases, of the rows what their own call leaves, both as before
+-- What each joined step leaves: of the channels a run of releases and registers, of the rows what their own calls leave, both as before
 -- where it is refused; and sound channels stay sound. Assumes nothing.
 use mathlib.Core.Path.{_≡_, refl}
 use mathlib.Core.List.{List}
 use Prim.Native.Nat.{ℕ}
 use Rattle.cap.specs.Slot.{holding}
-use Rattle.cap.specs.Word.{slotsOf}
 use Rattle.cap.specs.declared.CapId.{CapId}
-use Rattle.capslots.specs.Rows.{seedOf, drainOf, installOf}
+use Rattle.capslots.specs.Rows.{rowOf, seedOf, drainOf, installOf}
+use Rattle.capslots.specs.Table.{rowAt, Shape}
 use Rattle.capslots.specs.declared.Table.{Table as Rows}
 use Rattle.ipc_rules.specs.Sound.{Sound}
 use Rattle.ipc_rules.specs.Holds.{registered, registeredAll, releasedAll, releaseOf, fourOf}
@@ -20,6 +20,7 @@ use Rattle.joined.specs.declared.answers.Leaving.{Leaving}
 use Rattle.joined.specs.declared.answers.LeaveAnswer.the-variants.{Left}
 use Rattle.joined.specs.declared.answers.Giving.{Giving}
 use Rattle.joined.specs.declared.answers.GiveAnswer.the-variants.{Given}
+use Rattle.joined.proofs.Register.{seeded-row}
 use Rattle.joined.proofs.Ways.{spawn-ways, leave-ways, give-ways, guarded-ways}
 
 module _ (channels : Channels) (rows : Rows) where
@@ -35,20 +36,38 @@ module _ (channels : Channels) (rows : Rows) where
     abbrev spawn : Spawning
     spawn = spawnOf channels rows r words
 
+    -- the row's old ids released, then the ids that are in it afterwards registered
+    abbrev freed : Channels
+    freed = releasedAll channels (drainOf rows r .slots) .table
+
     pub spawn-kept : Sound channels → Sound (spawn .channels)
+    unfolding releaseOf
     spawn-kept s =
         spawn-ways channels rows (λ (x : Spawning). Sound (x .channels)) r words (λ _ _. s)
-        (λ _ _. registered-all-kept channels (slotsOf words) s)
+        (λ _ _. registered-all-kept freed (rowAt (seedOf (drainOf rows r .table) r words .table) r .slots) (released-all-kept channels (drainOf rows r .slots) s))
 
-    pub spawn-registers : spawn .answer ≡ Spawned → spawn .channels ≡ registeredAll channels (slotsOf words)
+    pub spawn-registers : spawn .answer ≡ Spawned → spawn .channels ≡ registeredAll freed (rowAt (spawn .rows) r .slots)
+    unfolding releaseOf
     spawn-registers =
-        spawn-ways channels rows (λ (x : Spawning). x .answer ≡ Spawned → x .channels ≡ registeredAll channels (slotsOf words)) r words
+        spawn-ways channels rows (λ (x : Spawning). x .answer ≡ Spawned → x .channels ≡ registeredAll freed (rowAt (x .rows) r .slots)) r words
         (λ _ n e. absurd (n e)) (λ _ _ _. refl)
 
-    pub spawn-seeds : spawn .answer ≡ Spawned → spawn .rows ≡ seedOf rows r words .table
-    spawn-seeds =
-        spawn-ways channels rows (λ (x : Spawning). x .answer ≡ Spawned → x .rows ≡ seedOf rows r words .table) r words
+    pub spawn-wakes : spawn .answer ≡ Spawned → spawn .waiters ≡ fourOf (releasedAll channels (drainOf rows r .slots) .woken)
+    unfolding releaseOf
+    spawn-wakes =
+        spawn-ways channels rows (λ (x : Spawning). x .answer ≡ Spawned → x .waiters ≡ fourOf (releasedAll channels (drainOf rows r .slots) .woken)) r words
         (λ _ n e. absurd (n e)) (λ _ _ _. refl)
+
+    pub spawn-seeds : spawn .answer ≡ Spawned → spawn .rows ≡ seedOf (drainOf rows r .table) r words .table
+    spawn-seeds =
+        spawn-ways channels rows (λ (x : Spawning). x .answer ≡ Spawned → x .rows ≡ seedOf (drainOf rows r .table) r words .table) r words
+        (λ _ n e. absurd (n e)) (λ _ _ _. refl)
+
+    -- the ids that are in the row afterwards are the list's first four, and none of those past them
+    pub spawn-fills : Shape rows → spawn .answer ≡ Spawned → rowAt (spawn .rows) r ≡ rowOf words
+    spawn-fills shape =
+        spawn-ways channels rows (λ (x : Spawning). x .answer ≡ Spawned → rowAt (x .rows) r ≡ rowOf words) r words
+        (λ _ n e. absurd (n e)) (λ w l _. seeded-row rows r words shape w l)
 
     spawn-keeps : Spawning → Type 0
     spawn-keeps x = (x .answer ≡ Spawned → ⊥) → Unchanged (x .channels) (x .rows)

@@ -24,14 +24,17 @@ giveNumber give.the-variants.Given = no.none
 giveNumber give.the-variants.BadSlot = no.badSlot
 giveNumber give.the-variants.BadTable = no.badTable
 
--- spawn and give show no values
-abbrev pub spawnValues : spawn.SpawnAnswer → List ℕ
-spawnValues a = []
-
+-- give shows no values
 abbrev pub giveValues : give.GiveAnswer → List ℕ
 giveValues a = []
 
--- the four waiters stand beside the answer
+-- the four waiters stand beside the answers of spawn and leave
+abbrev pub spawnValues : spawn.SpawnAnswer → List Waiter → List ℕ
+spawnValues spawn.the-variants.Spawned ws = fourWaiterValues ws
+spawnValues spawn.the-variants.BadWord ws = []
+spawnValues spawn.the-variants.BadRow ws = []
+spawnValues spawn.the-variants.BadTable ws = []
+
 abbrev pub leaveValues : leave.LeaveAnswer → List Waiter → List ℕ
 leaveValues leave.the-variants.Left ws = fourWaiterValues ws
 leaveValues leave.the-variants.BadRow ws = []

@@ -16,8 +16,10 @@ pub enum SpawnAnswer {
     BadTable,
 }
 
+// The waiters that letting go of the row took out stand first, in the row's order.
 pub struct Spawning {
     pub answer: SpawnAnswer,
+    pub waiters: [Waiter; 4],
     pub channels: Channels,
     pub rows: Rows,
 }
@@ -61,10 +63,14 @@ impl SpawnAnswer {
         }
     }
 
-    pub fn shown(self) -> Shown
-        ensures { λ r. ⌜ r ≡ shown (spawnNumber self) (spawnValues self) ⌝ }
+    // The four waiters stand beside the answer.
+    pub fn shown(self, waiters: [Waiter; 4]) -> Shown
+        ensures { λ r. ⌜ r ≡ shown (spawnNumber self) (spawnValues self waiters) ⌝ }
     {
-        shown::none(self.number())
+        let SpawnAnswer::Spawned = self else {
+            return shown::none(self.number());
+        };
+        four_shown(waiters)
     }
 }
 

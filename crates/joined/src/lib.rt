@@ -19,13 +19,14 @@ pub use answers::Leaving;
 pub use answers::SpawnAnswer;
 pub use answers::Spawning;
 
-// A task's first row, and a hold for each id of the list.
+// A task's first row: what the row held is released, with the waiters to cancel, and each id that is then in it gets a hold.
 pub fn spawn(channels: Channels, rows: Rows, row: usize, list: &[u64]) -> Spawning
     ensures { λ r. ⌜ r ≡ spawnCall channels rows row (now (list .entry)) ⌝ }
 {
     if !ipc_sound::sound(channels) {
         return Spawning {
             answer: SpawnAnswer::BadTable,
+            waiters: [NOBODY; 4],
             channels,
             rows,
         };

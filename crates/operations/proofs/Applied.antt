@@ -21,10 +21,10 @@ use Rattle.ipc_rules.proofs.Few.{create-few, send-few, recv-few, park-few, queu
 use Rattle.irqcap.specs.Table as irqs
 use Rattle.taskcap.specs.Table as tasks
 use Rattle.mint.proofs.Few.{mint-few, lookup-few}
-use Rattle.joined.specs.Steps.{leaveOf}
-use Rattle.joined.proofs.Shows.{leave-few}
+use Rattle.joined.specs.Steps.{spawnOf, leaveOf}
+use Rattle.joined.proofs.Shows.{spawn-few, leave-few}
 use Rattle.logread.specs.Little.{byteAt, littleAt}
-use Rattle.logread.specs.Lists.{listSlots}
+use Rattle.logread.specs.Lists.{listSlots, listWords}
 use Rattle.operations.specs.Apply.{applyOf, allDone, unknownDone}
 use Rattle.operations.specs.Channels.{newDone, createDone, sendDone, receiveDone, parkDone, queuedDone, revokeDone, holdersDone, clearDone, noteAuthorityDone, noteStateDone, countsDone}
 use Rattle.operations.specs.Done.{Done}
@@ -123,7 +123,7 @@ module _ (log : List ℕ) (t : Tables) where
       lit≤ tt ▸
       mint-few (irqs.mintOf (t .irqs) (littleAt log 3 4) .answer) ▸
       lookup-few (irqs.lookupOf (t .irqs) (idAt log 3)) ▸
-      none-few ▸
+      spawn-few (spawnOf (t .channels) (t .rows) (byteAt log 3) (listWords log 4) .answer) (spawnOf (t .channels) (t .rows) (byteAt log 3) (listWords log 4) .waiters) ▸
       leave-few (leaveOf (t .channels) (t .rows) (byteAt log 3) .answer) (leaveOf (t .channels) (t .rows) (byteAt log 3) .waiters) ▸
       none-few ▸
       counts-few (refusalsOf (t .channels)) ▸

@@ -14,7 +14,7 @@ use Rattle.operations.specs.declared.Tables.{Tables}
 
 -- ---- what a step's answer and tables come to
 abbrev pub afterSpawn : Tables → Spawning → Done
-afterSpawn t r = done (spawnNumber (r .answer)) (spawnValues (r .answer)) (withBoth t (r .channels) (r .rows))
+afterSpawn t r = done (spawnNumber (r .answer)) (spawnValues (r .answer) (r .waiters)) (withBoth t (r .channels) (r .rows))
 
 abbrev pub afterLeave : Tables → Leaving → Done
 afterLeave t r = done (leaveNumber (r .answer)) (leaveValues (r .answer) (r .waiters)) (withBoth t (r .channels) (r .rows))

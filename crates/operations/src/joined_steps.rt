@@ -17,12 +17,13 @@ pub fn op_spawn(mut t: Tables, log: &[u8]) -> Outcome
     let words = list_words(log, 4);
     let spawned = joined::inner::spawn(t.channels, t.rows, index_at(log, 3), &words);
     let answer = spawned.answer;
+    let waiters = spawned.waiters;
     let channels = spawned.channels;
     let rows = spawned.rows;
     t.channels = channels;
     t.rows = rows;
     Outcome {
-        shown: answer.shown(),
+        shown: answer.shown(waiters),
         tables: t,
     }
 }

@@ -69,7 +69,7 @@ impl Drawn for Jobs {
 
     /// One opening after another wherever there is room, until all places are open
     /// and beyond; a task waits at each, and some are closed again.
-    fn family(d: &mut Draft<Self>) {
+    fn family(d: &mut Draft<Self>, _kind: &Kind) {
         for i in 0..17 {
             let opening = Draw { d, edge_in: 1000 }.opening(true);
             d.push(1, &opening);

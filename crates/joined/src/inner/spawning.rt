@@ -6,9 +6,11 @@ use crate::answers::SpawnAnswer;
 use crate::answers::Spawning;
 use capslots::ROWS;
 use capslots::Table as Rows;
+use ipc_rules::state::NOBODY;
 use ipc_rules::state::Table as Channels;
 
-// Seeds the row and registers the whole list, also what lies past the row's four slots. What the row held before keeps its holds.
+// Drains the row and releases its four, as a leave does; seeds it; and registers the four slots that it then has. What the list has past
+// the fourth has to read, and holds nothing.
 pub fn spawn(channels: Channels, rows: Rows, row: usize, list: &[u64]) -> Spawning
     requires { ⌜ Sound channels ⌝ }
     ensures { λ r. ⌜ r ≡ spawnOf channels rows row (now (list .entry)) ⌝ }
@@ -17,6 +19,7 @@ pub fn spawn(channels: Channels, rows: Rows, row: usize, list: &[u64]) -> Spawni
     if !reads {
         return Spawning {
             answer: SpawnAnswer::BadWord,
+            waiters: [NOBODY; 4],
             channels,
             rows,
         };
@@ -24,16 +27,25 @@ pub fn spawn(channels: Channels, rows: Rows, row: usize, list: &[u64]) -> Spawni
     if row >= ROWS {
         return Spawning {
             answer: SpawnAnswer::BadRow,
+            waiters: [NOBODY; 4],
             channels,
             rows,
         };
     }
-    let seeded = capslots::seed(rows, row, list);
+    let drained = capslots::drain(rows, row);
+    let before = drained.slots;
+    let emptied = drained.table;
+    let released = ipc_holds::inner::release_holds(channels, before);
+    let waiters = released.waiters;
+    let freed = released.table;
+    let seeded = capslots::seed(emptied, row, list);
     let filled = seeded.table;
-    let registered = ipc_holds::inner::register_holds(channels, list);
-    let held = registered.table;
+    let own = filled.rows[row];
+    let present = own.slots;
+    let held = ipc_holds::inner::register_four(freed, present);
     Spawning {
         answer: SpawnAnswer::Spawned,
+        waiters,
         channels: held,
         rows: filled,
     }

@@ -23,8 +23,8 @@ shown-requires c κs = search needs
 returns : tie.Need-returns
 unfolding spawnDone
 returns c =
-    rw (← c .before .before .before .before .before .index-at .ensures, ← c .before .before .before .before .before .before .list-words .ensures)
-    (packs (afterSpawn (c .before .before .before .before .before .before .before .before .args .t)) (c .before .before .before .spawn .ensures) (c .shown .ensures))
+    rw (← c .before .before .before .before .before .before .index-at .ensures, ← c .before .before .before .before .before .before .before .list-words .ensures)
+    (packs (afterSpawn (c .before .before .before .before .before .before .before .before .before .args .t)) (c .before .before .before .before .spawn .ensures) (c .shown .ensures))
 
 pub op-spawn-spec : {M : Type 1} → statement M
 op-spawn-spec =
