@@ -18,7 +18,7 @@ lengths = 100 ∷ 6 ∷ 1 ∷ 22 ∷ 2 ∷ 6 ∷ 1 ∷ 0 ∷ []
 unfoldable pub lengthOf : ℕ → ℕ
 lengthOf op = getD lengths op 0
 
--- a script starts with the mark 4B 4A (hex)
+-- a record starts with the mark 4B 4A (hex)
 abbrev pub marked : List ℕ → Bool
 marked script = eqb (byteAt script 0) 75 && eqb (byteAt script 1) 74
 
