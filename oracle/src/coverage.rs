@@ -73,7 +73,9 @@ impl Coverage {
                 true => format!("{operation} {name}"),
                 false => name.to_string(),
             };
-            writeln!(text, "{named}").unwrap();
+            if !numbers.is_empty() {
+                writeln!(text, "{named}").unwrap();
+            }
             for (number, ways) in *numbers {
                 let count = |way| self.times.get(&(operation, *number, way)).copied();
                 let counts: Vec<_> = ways.iter().map(|way| count(way).unwrap_or(0)).collect();

@@ -93,7 +93,7 @@ impl<D: Drawn> Draft<D> {
         self.bytes.extend(operands);
         let record = records::record::<D>(&self.bytes[start..]).expect("a record that reads");
         let answer = self.tables.apply(operation, record.operands);
-        let (number, values) = answer.expect("sizes that are built");
+        let (number, values) = answer.expect("what can be answered");
         if number == 0 {
             D::learn(&mut self.known, operation, operands, &values);
         }

@@ -4,39 +4,26 @@
 use crate::draft::{Draft, Drawn};
 use crate::edges;
 use crate::ids::End;
+use crate::kinds::Known;
 use crate::random::Random;
 use crate::tables::{ROWS, SIZES, SLOTS, Tables};
 
 /// The operands of an operation of the log.
 pub fn operands(d: &mut Draft<Tables>, edge_in: u64, operation: u8) -> Vec<u8> {
-    let sent = d.known.sent;
     let mut draw = Draw { d, edge_in };
     match operation {
         0 => draw.sizes().to_vec(),
-        1 => vec![draw.random().below(2) as u8],
-        2 => [bytes(draw.id(End::Send)), draw.message(sent)].concat(),
-        3 => bytes(draw.id(End::Receive)),
-        4 => [bytes(draw.id(End::Receive)), draw.task()].concat(),
-        5 | 6 => bytes(draw.id(End::Either)),
-        7 | 8 => draw.list(),
-        9 => bytes(draw.id(End::Send)),
-        10 => draw.task(),
-        13 => vec![draw.row(), draw.slot()],
         14 => {
             let row = draw.row();
             [vec![row], bytes(draw.held(row))].concat()
         }
-        15 | 24 => [vec![draw.row()], draw.list()].concat(),
-        16 | 26 => [vec![draw.row(), draw.slot()], bytes(draw.id(End::Either))].concat(),
-        17 => draw.two_places(),
-        18 | 25 => vec![draw.row()],
         19 | 21 | 22 => bytes(draw.number()),
         20 | 23 => bytes(draw.minted()),
-        _ => Vec::new(),
+        _ => draw.on_channels(operation, Draw::id),
     }
 }
 
-fn bytes(word: u32) -> Vec<u8> {
+pub fn bytes(word: u32) -> Vec<u8> {
     word.to_le_bytes().to_vec()
 }
 
@@ -103,10 +90,33 @@ impl<D: Drawn> Draw<'_, D> {
     }
 }
 
-impl Draw<'_, Tables> {
+/// What logs draw.
+impl<D: Drawn<Known = Known>> Draw<'_, D> {
+    /// The operands of an operation on channels and rows; ids for slots and lists
+    /// are drawn by `put`.
+    pub fn on_channels(&mut self, operation: u8, put: fn(&mut Self, End) -> u32) -> Vec<u8> {
+        let sent = self.d.known.sent;
+        match operation {
+            1 => vec![self.random().below(2) as u8],
+            2 => [bytes(self.id(End::Send)), self.message(sent)].concat(),
+            3 => bytes(self.id(End::Receive)),
+            4 => [bytes(self.id(End::Receive)), self.task()].concat(),
+            5 | 6 => bytes(self.id(End::Either)),
+            7 | 8 => self.list(put),
+            9 => bytes(self.id(End::Send)),
+            10 => self.task(),
+            13 => vec![self.row(), self.slot()],
+            15 | 24 => [vec![self.row()], self.list(put)].concat(),
+            16 | 26 => [vec![self.row(), self.slot()], bytes(put(self, End::Either))].concat(),
+            17 => self.two_places(),
+            18 | 25 => vec![self.row()],
+            _ => Vec::new(),
+        }
+    }
+
     /// Four places; some lists name one channel again and again.
-    fn list(&mut self) -> Vec<u8> {
-        let same = self.one_in(6).then(|| self.id(End::Send));
+    fn list(&mut self, put: fn(&mut Self, End) -> u32) -> Vec<u8> {
+        let same = self.one_in(6).then(|| put(self, End::Send));
         let mut list = Vec::new();
         for _ in 0..SLOTS {
             if self.one_in(4) {
@@ -118,13 +128,13 @@ impl Draw<'_, Tables> {
                 _ => End::Send,
             };
             list.push(1);
-            list.extend(bytes(same.unwrap_or_else(|| self.id(end))));
+            list.extend(bytes(same.unwrap_or_else(|| put(self, end))));
         }
         list
     }
 
     /// From row and slot, to row and slot: at times one place twice.
-    fn two_places(&mut self) -> Vec<u8> {
+    pub fn two_places(&mut self) -> Vec<u8> {
         let from = [self.row(), self.slot()];
         let to = if self.one_in(8) {
             from
@@ -133,7 +143,9 @@ impl Draw<'_, Tables> {
         };
         [from, to].concat()
     }
+}
 
+impl Draw<'_, Tables> {
     /// A task's one number, or a cookie.
     fn number(&mut self) -> u32 {
         if self.at_edge() {

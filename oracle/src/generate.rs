@@ -10,10 +10,6 @@ use std::path::Path;
 /// Bytes of this kind, the same for the same seed.
 pub fn generate<D: Damaged>(seed: u64, name: &str) -> Result<Vec<u8>, String> {
     let mut random = Random::new(seed);
-    if let Some(kind) = find::<D>(name) {
-        let records = 4 + random.below(117) as usize;
-        return Ok(drawn::<D>(random, kind, records).bytes);
-    }
     let first = &D::KINDS[0];
     Ok(match name {
         "damaged" => {
@@ -31,20 +27,24 @@ pub fn generate<D: Damaged>(seed: u64, name: &str) -> Result<Vec<u8>, String> {
             bytes
         }
         "empty" => Vec::new(),
-        _ => {
-            let kind = name.strip_prefix("long-").and_then(find::<D>);
-            let kind = kind.ok_or_else(|| format!("there is no kind {name}"))?;
-            drawn::<D>(random, kind, usize::MAX).bytes
-        }
+        _ => return sound::<D>(seed, name),
     })
+}
+
+/// The same of a kind whose records all read.
+pub fn sound<D: Drawn>(seed: u64, name: &str) -> Result<Vec<u8>, String> {
+    let mut random = Random::new(seed);
+    let find = |name| kinds::<D>().find(|kind| kind.name == name);
+    let (kind, records) = match (find(name), name.strip_prefix("long-").and_then(find)) {
+        (Some(kind), _) => (kind, 4 + random.below(117) as usize),
+        (None, Some(kind)) => (kind, usize::MAX),
+        (None, None) => return Err(format!("there is no kind {name}")),
+    };
+    Ok(drawn::<D>(random, kind, records).bytes)
 }
 
 fn kinds<D: Drawn>() -> impl Iterator<Item = &'static Kind> {
     D::KINDS.iter().chain(D::FURTHER)
-}
-
-fn find<D: Drawn>(name: &str) -> Option<&'static Kind> {
-    kinds::<D>().find(|kind| kind.name == name)
 }
 
 /// At most so many steps, and at most the greatest length.
@@ -82,10 +82,14 @@ pub fn many<D: Damaged>(
     for i in 0..count {
         let name = name::<D>(i);
         let bytes = generate::<D>(random.next(), &name)?;
-        let path = folder.join(format!("{i:05}-{name}.{ending}"));
-        fs::write(&path, bytes).map_err(|why| format!("{}: {why}", path.display()))?;
+        write(folder, &format!("{i:05}-{name}.{ending}"), &bytes)?;
     }
     Ok(())
+}
+
+pub fn write(folder: &Path, name: &str, bytes: &[u8]) -> Result<(), String> {
+    let path = folder.join(name);
+    fs::write(&path, bytes).map_err(|why| format!("{}: {why}", path.display()))
 }
 
 fn name<D: Drawn>(i: usize) -> String {

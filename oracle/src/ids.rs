@@ -1,7 +1,9 @@
 //! Drawn ids.
 
+use crate::draft::Drawn;
 use crate::draw::Draw;
 use crate::edges;
+use crate::kinds::Known;
 use crate::tables::Tables;
 
 /// The end of a channel that an id is wanted for.
@@ -12,7 +14,7 @@ pub enum End {
     Either,
 }
 
-impl Draw<'_, Tables> {
+impl<D: Drawn<Known = Known>> Draw<'_, D> {
     /// An id for this end: of a live channel, mostly of one of the last two; or
     /// the other end, or revoked, or next to a live one, or no endpoint's.
     pub fn id(&mut self, end: End) -> u32 {
@@ -28,7 +30,7 @@ impl Draw<'_, Tables> {
         }
     }
 
-    fn end(&mut self, end: End, live: bool, other: bool) -> u32 {
+    pub fn end(&mut self, end: End, live: bool, other: bool) -> u32 {
         let known = &self.d.known;
         let from = if live { &known.live } else { &known.revoked };
         let count = from.len() as u64;
@@ -75,7 +77,9 @@ impl Draw<'_, Tables> {
         }
         id
     }
+}
 
+impl Draw<'_, Tables> {
     /// Mostly an id that the row holds, if it holds one.
     pub fn held(&mut self, row: u8) -> u32 {
         let slot = self.slot();

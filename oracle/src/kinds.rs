@@ -77,23 +77,10 @@ impl Drawn for Tables {
         draw::operands(d, edge_in, operation)
     }
 
-    /// Up to four ephemeral channels, a row that holds them, a waiter on each; then
-    /// the holds go, all at once. A spawn takes them and may give them back.
+    /// A row that is waited for; then the holds go, all at once. A spawn takes them
+    /// and may give them back.
     fn family(d: &mut Draft<Self>, kind: &Kind) {
-        let before = d.known.live.len();
-        let members = 1 + d.random.below(4);
-        (0..members).for_each(|_| d.push(1, &[1]));
-        let made = d.known.live[before..].to_vec();
-        let mut list = vec![0; 20];
-        for (place, [send, _]) in list.chunks_exact_mut(5).zip(&made) {
-            place[0] = 1;
-            place[1..].copy_from_slice(&send.to_le_bytes());
-        }
-        let row = vec![d.random.below(54) as u8];
-        d.push(24, &[row.clone(), list.clone()].concat());
-        for (i, [_, receive]) in made.iter().enumerate() {
-            d.push(4, &[receive.to_le_bytes(), [i as u8, 0, 1, 0]].concat());
-        }
+        let (row, list) = waited_for(d);
         match (kind.name, d.random.below(2)) {
             ("spawns", 0) => d.push(24, &[row, list].concat()),
             ("spawns", _) => d.push(24, &[row, vec![0; 20]].concat()),
@@ -101,6 +88,26 @@ impl Drawn for Tables {
             _ => d.push(25, &row),
         }
     }
+}
+
+/// Up to four ephemeral channels, a row that holds them, a waiter on each: the row,
+/// and the list that it was spawned with.
+pub fn waited_for<D: Drawn<Known = Known>>(d: &mut Draft<D>) -> (Vec<u8>, Vec<u8>) {
+    let before = d.known.live.len();
+    let members = 1 + d.random.below(4);
+    (0..members).for_each(|_| d.push(1, &[1]));
+    let made = d.known.live[before..].to_vec();
+    let mut list = vec![0; 20];
+    for (place, [send, _]) in list.chunks_exact_mut(5).zip(&made) {
+        place[0] = 1;
+        place[1..].copy_from_slice(&send.to_le_bytes());
+    }
+    let row = vec![d.random.below(54) as u8];
+    d.push(24, &[row.clone(), list.clone()].concat());
+    for (i, [_, receive]) in made.iter().enumerate() {
+        d.push(4, &[receive.to_le_bytes(), [i as u8, 0, 1, 0]].concat());
+    }
+    (row, list)
 }
 
 /// Nothing for the greatest sizes as they are, or a small table's, or any that

@@ -20,6 +20,7 @@ mod records;
 mod replay;
 mod rounds;
 mod tables;
+mod tally;
 mod tasks;
 mod views;
 mod ways;
@@ -37,6 +38,7 @@ use std::path::{Path, PathBuf};
 use std::process::ExitCode;
 use std::{fs, panic};
 use tables::Tables;
+use tally::Tallied;
 
 const USAGE: &str = "usage: oracle COMMAND
   bind-edges                  cases of bind on both sides of each edge
@@ -52,6 +54,9 @@ const USAGE: &str = "usage: oracle COMMAND
                               damaged; full and over (65,536 bytes and one more); empty
   generate-many SEED COUNT FOLDER   drawn logs of all kinds, as files
   coverage FOLDER             runs each log there; fails where a number that can occur did not
+  tally-generate SEED KIND    a drawn log within request No. 7's premises: slots, reuse or waits, each also with long- before it
+  tally-generate-many SEED COUNT FOLDER   drawn logs of these kinds, as files, and prefixes of some in a folder prefixes
+  tally-coverage FOLDER       as coverage, for such logs; fails where one breaks a premise
   jobs                        reads a job script, prints the lines of the dispatcher over the Rust's tables
   jobs-all FOLDER             writes what jobs prints for each NAME.jobs there to NAME.rust
   jobs-generate SEED KIND     a drawn script: mixed, queues, churn, crowded or edges, each also with long- before it;
@@ -106,6 +111,12 @@ fn run(words: &[&str]) -> Result<Vec<u8>, String> {
         ["generate", seed, kind] => generate::generate::<Tables>(number(seed)?, kind),
         ["generate-many", seed, count, folder] => many::<Tables>(seed, count, folder),
         ["coverage", folder] => covered::<Tables>(folder),
+        ["tally-generate", seed, kind] => generate::sound::<Tallied>(number(seed)?, kind),
+        ["tally-generate-many", seed, count, folder] => {
+            tally::many(number(seed)?, number(count)?, Path::new(folder))?;
+            Ok(Vec::new())
+        }
+        ["tally-coverage", folder] => covered::<Tallied>(folder),
         ["jobs"] => lines::<Jobs>(&input()?),
         ["jobs-all", folder] => all::<Jobs>(folder, lines::<Jobs>),
         ["jobs-generate", seed, kind] => generate::generate::<Jobs>(number(seed)?, kind),
@@ -161,7 +172,8 @@ fn many<D: Damaged + Covered>(seed: &str, count: &str, folder: &str) -> Result<V
 fn covered<C: Covered>(folder: &str) -> Result<Vec<u8>, String> {
     let mut coverage = coverage::Coverage::default();
     for path in files::<C>(folder)? {
-        coverage.add::<C>(&fs::read(path).map_err(say)?)?;
+        let added = coverage.add::<C>(&fs::read(&path).map_err(say)?);
+        added.map_err(|why| format!("{}: {why}", path.display()))?;
     }
     let (table, wrong) = coverage.table::<C>();
     if wrong.is_empty() {

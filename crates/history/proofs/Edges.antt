@@ -22,13 +22,13 @@ use Rattle.ipc_rules.specs.Create.{createOf}
 use Rattle.history.specs.Edges.{Edge, Agree, done, row, edges, classValues, irqMints, EdgesAgree}
 
 -- ---- the test
-unfoldable same : List ℕ → List ℕ → Bool
+unfoldable pub same : List ℕ → List ℕ → Bool
 same [] [] = true
 same [] (y ∷ ys) = false
 same (x ∷ xs) [] = false
 same (x ∷ xs) (y ∷ ys) = eqb x y && same xs ys
 
-unfoldable allAgree : List Edge → Bool
+unfoldable pub allAgree : List Edge → Bool
 allAgree [] = true
 allAgree (e ∷ es) = same (e .given) (e .said) && allAgree es
 
@@ -40,7 +40,7 @@ same-is [] (y ∷ ys) h = let z : _≡_ {A = ℕ} 0 1 = cc in absurd (omega arit
 same-is (x ∷ xs) [] h = let z : _≡_ {A = ℕ} 0 1 = cc in absurd (omega arith)
 same-is (x ∷ xs) (y ∷ ys) h = rw (eqb-true x y (and-left (eqb x y) (same xs ys) h), same-is xs ys (and-right (eqb x y) (same xs ys) h))
 
-agree-by : (es : List Edge) → allAgree es ≡ true → Agree es
+pub agree-by : (es : List Edge) → allAgree es ≡ true → Agree es
 unfolding allAgree
 agree-by [] h = done
 agree-by (e ∷ es) h =

@@ -37,11 +37,11 @@ use Rattle.history.proofs.Steps.{Births, create-births}
 use Rattle.history.proofs.Tidy.{genOf, Tidy, step-grows, start-tidy}
 
 -- one mailbox, two endpoints, nothing alive, and n channels made
-record Idle (w : World) (n : ℕ) : Type 0 where
-  tidy : Tidy w
-  made : w .made ≡ n
-  sizes : w .table .sizes ≡ sizesOf 1 2 1
-  dead : (k : ℕ) → mailboxLive (w .table) k ≡ false
+pub record Idle (w : World) (n : ℕ) : Type 0 where
+  pub tidy : Tidy w
+  pub made : w .made ≡ n
+  pub sizes : w .table .sizes ≡ sizesOf 1 2 1
+  pub dead : (k : ℕ) → mailboxLive (w .table) k ≡ false
 
 -- ---- a creation, from there
 module _ (w : World) (n : ℕ) (ι : Idle w n) where
@@ -58,10 +58,10 @@ module _ (w : World) (n : ℕ) (ι : Idle w n) where
   dead-end : (i : ℕ) → endpointLive t i ≡ false
   dead-end i = ⊎-elim (λ l. absurd (not-both _ (ι .tidy .sound .names i l .live) (ι .dead _))) (λ d. d) (either (endpointLive t i))
 
-  idle-shut : (c : CapId) (need : CapRights) → openingOf t c need ≡ Shut
+  pub idle-shut : (c : CapId) (need : CapRights) → openingOf t c need ≡ Shut
   idle-shut c need = dead-shut t c need (dead-end (indexOf c))
 
-  makes-first : Creates t false 0 0 1 (createOf t false)
+  pub makes-first : Creates t false 0 0 1 (createOf t false)
   makes-first = by (create-ways t false (ι .tidy .sound))
     where
       by : CreateWays t false (createOf t false) → Creates t false 0 0 1 (createOf t false)
@@ -91,7 +91,7 @@ module _ (w : World) (n : ℕ) (ι : Idle w n) where
       ∙ rw (either-is, idle-births .table, makes-first .openings .sends)
 
 -- ---- a round
-abbrev round : World → CapId → World
+abbrev pub round : World → CapId → World
 round w c = step (step w (create false)) (revoke c)
 
 -- a revocation makes no channel
@@ -99,11 +99,11 @@ revoke-made : (w : World) (c : CapId) → step w (revoke c) .made ≡ w .made
 unfolding step answer onCreation
 revoke-made w c = refl
 
-revoke-table : (w : World) (c : CapId) → step w (revoke c) .table ≡ revokeOf (w .table) c .table
+pub revoke-table : (w : World) (c : CapId) → step w (revoke c) .table ≡ revokeOf (w .table) c .table
 unfolding after
 revoke-table w c = step-table w (revoke c)
 
-idle-round : (w : World) (n : ℕ) → Idle w n → Idle (round w (idOf 0 (w .table .counters .«next_gen»))) (suc n)
+pub idle-round : (w : World) (n : ℕ) → Idle w n → Idle (round w (idOf 0 (w .table .counters .«next_gen»))) (suc n)
 idle-round w n ι = by (revoke-ways (v .table) c (τ .sound))
   where
     v : World
@@ -147,10 +147,10 @@ idle-rounds w n (suc j) ι =
 
 -- ---- the run
 -- a fresh table with one mailbox and two endpoints
-abbrev small : Sizes
+abbrev pub small : Sizes
 small = sizesOf 1 2 1
 
-idle-start : Idle (start small) 0
+pub idle-start : Idle (start small) 0
 idle-start =
     record {
       tidy = start-tidy small refl;

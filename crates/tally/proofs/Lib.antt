@@ -1,0 +1,10 @@
+pub mod Sums
+pub mod Tallied
+pub mod KeptChannels
+pub mod KeptRows
+pub mod KeptSteps
+pub mod KeptJobs
+pub mod KeptPlaces
+pub mod Tally
+pub mod Needed
+pub mod Bound

@@ -1,0 +1,4 @@
+pub mod Count
+pub mod Runs
+pub mod Tally
+pub mod Needed
