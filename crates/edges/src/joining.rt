@@ -1,7 +1,7 @@
 // The joined steps, by the numbers of document 01's log. Each function shows an answer and hands both tables on.
-use crate::channels;
-use crate::rows;
 use capslots::Table as Rows;
+use edgecalls::channels;
+use edgecalls::rows;
 use edgescript::operands::id;
 use edgescript::operands::rest;
 use edgescript::operands::size;
@@ -56,7 +56,10 @@ pub(crate) fn call(op: u8, b: Both, w: &[u64]) -> Both {
     }
 }
 
+// Sizes 0, 0, 1 and vacant rows. The seeding changes nothing and is there for the optimiser's sake: without it the rows are copied slot by
+// slot wherever they are handed on, and the program takes ten times as long to compile.
 pub(crate) fn fresh() -> Both {
-    let x = ipc::new(0, 0, 1);
-    paired(x.table, capslots::new())
+    let vacant = [0u64; 1];
+    let x = capslots::seed(capslots::new(), 0, &vacant);
+    paired(channels::fresh(), x.table)
 }

@@ -21,6 +21,9 @@ use ipc_rules::state::Table;
 use ipc_rules::state::Waiter;
 use ring::Ring;
 
+// Next generation, m, e and d of the channel table.
+pub const LOOK: u8 = 100;
+
 // Each sets a part of the channel table, sound or not; nothing is answered. Sizes and counters: m, e, d; next generation; authority, full, state.
 pub const SET_HEAD: u8 = 101;
 

@@ -6,8 +6,10 @@ use libc::STDOUT_FILENO;
 // The most numbers that a line has.
 pub const ROOM: usize = 12;
 
-// Nothing says that the input ends, and a proved loop has to: no script has as many bytes.
+// Nothing says that the input ends, and a proved loop has to: no script has as many bytes, nor as many calls.
 const MOST_BYTES: u32 = u32::MAX;
+
+pub const MOST_CALLS: u32 = u32::MAX;
 
 // The digits of a u64, and what follows them.
 const MOST_DIGITS: u32 = 21;
@@ -28,7 +30,7 @@ fn copy(c: u8) {
 }
 
 // Copies the text up to the next colon, headings and empty lines with it, and says whether there is one.
-pub fn call_follows() -> bool {
+fn call_follows() -> bool {
     let mut left = MOST_BYTES;
     while left > 0 {
         left -= 1;
@@ -78,7 +80,7 @@ fn number() -> Read {
 }
 
 // Reads the numbers after the colon, each after a space, for as many as there is room, and says how many there are.
-pub fn numbers(room: &mut [u64]) -> usize
+fn numbers(room: &mut [u64]) -> usize
     ensures { λ r. ⌜ Counts r (now (room .exit)) ⌝ }
 {
     byte();
@@ -92,4 +94,14 @@ pub fn numbers(room: &mut [u64]) -> usize
         }
     }
     n
+}
+
+// Copies the text up to the next call and reads the call's numbers. Says how many there are, 0 where no call is left.
+pub fn call(room: &mut [u64]) -> usize
+    ensures { λ r. ⌜ Counts r (now (room .exit)) ⌝ }
+{
+    if call_follows() {
+        return numbers(room);
+    }
+    0
 }

@@ -6,6 +6,7 @@ use crate::op;
 use capslots::Table as Rows;
 use dispatcher_rules::state::Desk;
 use dispatcher_rules::state::Dispatcher;
+use edgecalls::channels;
 use edgescript::operands::message;
 use edgescript::operands::rest;
 use edgescript::operands::size;
@@ -80,6 +81,5 @@ pub(crate) fn call(op: u8, d: Desk, w: &[u64]) -> Desk {
 }
 
 pub(crate) fn fresh() -> Desk {
-    let x = ipc::new(0, 0, 1);
-    desk(binding::fresh(), capslots::new(), x.table)
+    desk(binding::fresh(), capslots::new(), channels::fresh())
 }

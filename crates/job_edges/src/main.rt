@@ -10,19 +10,16 @@ mod binding;
 mod jobs;
 mod op;
 
-// Nothing says that the input ends, and a proved loop has to: no script has as many calls.
-const MOST_CALLS: u32 = u32::MAX;
-
 fn main() {
     let mut desk = jobs::fresh();
-    let mut left = MOST_CALLS;
+    let mut left = script::MOST_CALLS;
     while left > 0 {
         left -= 1;
-        if !script::call_follows() {
+        let mut words = [0u64; script::ROOM];
+        let n = script::call(&mut words);
+        if n == 0 {
             return;
         }
-        let mut words = [0u64; script::ROOM];
-        let n = script::numbers(&mut words);
         let line = &words[..n];
         let op = operands::byte(line, 0);
         let w = operands::rest(line, 1);

@@ -1,6 +1,6 @@
 // The numbers of the script's calls. 0 to 7 are the job script's operations, but that 0 makes the channel table and the rows alone, and that
-// a row, slot or place may be any number. A tag is five numbers. Those that set a part of the channel table, 101 to 104, are in
-// `edgescript::broken`.
+// a row, slot or place may be any number. A tag is five numbers. Those that look at the channel table and set a part of it, 100 to
+// 104, are in `edgescript::broken`.
 
 // m, e, d.
 pub(crate) const NEW: u8 = 0;
@@ -36,6 +36,3 @@ pub(crate) const RELEASE: u8 = 21;
 pub(crate) const HOLDERS: u8 = 22;
 
 pub(crate) const INSTALL: u8 = 23;
-
-// Next generation, m, e and d of the channel table.
-pub(crate) const LOOK: u8 = 100;

@@ -5,9 +5,12 @@ ghost use lib.ListN.{take};
 ghost use Rattle.manifest.specs.Bind.{bindSlots};
 ghost use Rattle.ipc_rules.specs.Counts.{authorityNoted, stateNoted};
 ghost use Rattle.lent.specs.Holds.{registerSlots};
+use crate::op;
 use cap::CapId;
 use cap::Slot;
+use edgecalls::channels;
 use edgescript::operands::at;
+use edgescript::print;
 use ipc_rules::answers::Registering;
 use ipc_rules::state::Refusals;
 use ipc_rules::state::Table;
@@ -77,10 +80,21 @@ pub(crate) fn note_state(mut r: Refusals) -> Refusals
     r
 }
 
-pub(crate) fn register(t: Table, w: &[u64]) -> Registering {
-    register_first(t, records(w), at_most(w.len()))
+fn register(t: Table, w: &[u64]) -> Table {
+    let x = register_first(t, records(w), at_most(w.len()));
+    let a = x.answer;
+    print::answer(a.shown());
+    x.table
 }
 
 pub(crate) fn bind(entry: AgentEntry, w: &[u64]) -> Binding {
     bind_first(entry, records(w), at_most(w.len()))
+}
+
+// A call on the channel table, over references or not.
+pub(crate) fn call(op: u8, t: Table, w: &[u64]) -> Table {
+    match op {
+        op::REGISTER_LENT => register(t, w),
+        _ => channels::call(op, t, w),
+    }
 }

@@ -1,6 +1,4 @@
 // The channel table's calls, by the numbers of document 01's log. Each function makes a call, has its answer shown and hands the table on.
-use crate::lending;
-use crate::op;
 use edgescript::broken;
 use edgescript::operands::at;
 use edgescript::operands::four;
@@ -11,10 +9,16 @@ use edgescript::operands::size;
 use edgescript::operands::task;
 use edgescript::print;
 use ipc_rules::state::Table;
-use logread::op as log;
+use logread::op;
+
+// Where a script starts: sizes 0, 0, 1.
+pub fn fresh() -> Table {
+    let x = ipc::new(0, 0, 1);
+    x.table
+}
 
 // With 20 the next calls are made on the table of sizes 0, 0, 1 that comes back.
-fn new(w: &[u64]) -> Table {
+pub fn new(w: &[u64]) -> Table {
     let x = ipc::new(size(w, 0), size(w, 1), size(w, 2));
     let a = x.answer;
     print::answer(a.shown());
@@ -53,25 +57,21 @@ fn park(t: Table, w: &[u64]) -> Table {
     x.table
 }
 
-fn revoke(t: Table, w: &[u64]) -> Table {
+pub fn revoke(t: Table, w: &[u64]) -> Table {
     let x = ipc::revoke_channel(t, id(w, 0));
     let a = x.answer;
     print::answer(a.shown());
     x.table
 }
 
-fn register(op: u8, t: Table, w: &[u64]) -> Table {
-    let x = if op == op::REGISTER_LENT {
-        lending::register(t, w)
-    } else {
-        ipc::register_holds(t, w)
-    };
+fn register(t: Table, w: &[u64]) -> Table {
+    let x = ipc::register_holds(t, w);
     let a = x.answer;
     print::answer(a.shown());
     x.table
 }
 
-fn release(t: Table, w: &[u64]) -> Table {
+pub fn release(t: Table, w: &[u64]) -> Table {
     let x = ipc::release_holds(t, four(w));
     let a = x.answer;
     let woken = x.waiters;
@@ -87,7 +87,7 @@ fn clear_waiter(t: Table, w: &[u64]) -> Table {
 }
 
 fn note(op: u8, t: Table) -> Table {
-    let x = if op == log::NOTE_AUTHORITY {
+    let x = if op == op::NOTE_AUTHORITY {
         ipc::note_authority_refusal(t)
     } else {
         ipc::note_state_refusal(t)
@@ -97,39 +97,45 @@ fn note(op: u8, t: Table) -> Table {
     x.table
 }
 
+fn queued(t: Table, w: &[u64]) {
+    let a = ipc::queued(t, id(w, 0));
+    print::answer(a.shown());
+}
+
+pub fn holders(t: Table, w: &[u64]) {
+    let a = ipc::send_holders(t, id(w, 0));
+    print::answer(a.shown());
+}
+
+pub fn counts(t: Table) {
+    let a = ipc::refusals(t);
+    print::answer(a.shown());
+}
+
 // The calls that may change the table.
-pub(crate) fn call(op: u8, t: Table, w: &[u64]) -> Table {
+pub fn call(op: u8, t: Table, w: &[u64]) -> Table {
     match op {
-        log::NEW => new(w),
-        log::CREATE => create(t, w),
-        log::SEND => send(t, w),
-        log::RECEIVE => receive(t, w),
-        log::PARK => park(t, w),
-        log::REVOKE => revoke(t, w),
-        log::REGISTER | op::REGISTER_LENT => register(op, t, w),
-        log::RELEASE => release(t, w),
-        log::CLEAR_WAITER => clear_waiter(t, w),
-        log::NOTE_AUTHORITY | log::NOTE_STATE => note(op, t),
+        op::NEW => new(w),
+        op::CREATE => create(t, w),
+        op::SEND => send(t, w),
+        op::RECEIVE => receive(t, w),
+        op::PARK => park(t, w),
+        op::REVOKE => revoke(t, w),
+        op::REGISTER => register(t, w),
+        op::RELEASE => release(t, w),
+        op::CLEAR_WAITER => clear_waiter(t, w),
+        op::NOTE_AUTHORITY | op::NOTE_STATE => note(op, t),
         _ => broken::set(op, t, w),
     }
 }
 
 // Those that leave it as it is.
-pub(crate) fn look(op: u8, t: Table, w: &[u64]) {
+pub fn look(op: u8, t: Table, w: &[u64]) {
     match op {
-        log::QUEUED => {
-            let a = ipc::queued(t, id(w, 0));
-            print::answer(a.shown());
-        }
-        log::HOLDERS => {
-            let a = ipc::send_holders(t, id(w, 0));
-            print::answer(a.shown());
-        }
-        log::COUNTS => {
-            let a = ipc::refusals(t);
-            print::answer(a.shown());
-        }
-        op::LOOK => broken::look(t.counters.next_gen, t.sizes),
+        op::QUEUED => queued(t, w),
+        op::HOLDERS => holders(t, w),
+        op::COUNTS => counts(t),
+        broken::LOOK => broken::look(t.counters.next_gen, t.sizes),
         _ => {}
     }
 }

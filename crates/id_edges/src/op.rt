@@ -1,8 +1,5 @@
-// The numbers of what no log can say. Those of document 01's operations, 0 to 27, are in `logread::op`, and those that set a part of the
-// channel table in `edgescript::broken`.
-
-// Next generation, m, e and d of the channel table.
-pub(crate) const LOOK: u8 = 100;
+// The numbers of what no log can say. Those of document 01's operations, 0 to 27, are in `logread::op`, and those that look at the channel
+// table and set a part of it, 100 to 104, in `edgescript::broken`.
 
 // `bind`, on words and on lent records: packet pool; four wanted indices, 256 for none; the held list.
 pub(crate) const BIND: u8 = 110;

@@ -1,4 +1,4 @@
--- `edges::lending::register_first` meets its contract: the walk is `walks`' FirstLent, at `lent::register_holds`. Assumes nothing.
+-- `id_edges::lending::register_first` meets its contract: the walk is `walks`' FirstLent, at `lent::register_holds`. Assumes nothing.
 use mathlib.Core.Path.{refl}
 use lib.Dec.{lit<}
 use contract.Running.{givenOf, tables, tablesOf}
@@ -16,10 +16,10 @@ use Rattle.cap.proofs.slot.Slot.Laws as E′
 use Rattle.lent.proofs.register_holds as g
 use Rattle.lent.proofs.register_holds.Symbol as g-def
 use Rattle.lent.proofs.register_holds.Met as g-thm
-use Rattle.edges.proofs.lending.register_first.Key.{name as #f}
-use Rattle.edges.proofs.lending.register_first as f
-use Rattle.edges.proofs.lending.register_first.Statement as stated
-use Rattle.edges.proofs.lending.register_first.Code as code
+use Rattle.id_edges.proofs.lending.register_first.Key.{name as #f}
+use Rattle.id_edges.proofs.lending.register_first as f
+use Rattle.id_edges.proofs.lending.register_first.Statement as stated
+use Rattle.id_edges.proofs.lending.register_first.Code as code
 
 abbrev table : Kind
 table = record { type = B.the-type; laws = B′.the-laws; plainly = B′.the-plain }

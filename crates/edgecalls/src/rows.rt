@@ -24,7 +24,7 @@ fn seed(t: Table, w: &[u64]) -> Table {
     x.table
 }
 
-fn install(t: Table, w: &[u64]) -> Table {
+pub fn install(t: Table, w: &[u64]) -> Table {
     let x = capslots::install(t, size(w, 0), size(w, 1), id(w, 2));
     let a = x.answer;
     print::answer(a.shown());
@@ -38,14 +38,14 @@ fn transfer(t: Table, w: &[u64]) -> Table {
     x.table
 }
 
-fn drain(t: Table, w: &[u64]) -> Table {
+pub fn drain(t: Table, w: &[u64]) -> Table {
     let x = capslots::drain(t, size(w, 0));
     let slots = x.slots;
     print::answer(capslots::drain_shown(slots));
     x.table
 }
 
-pub(crate) fn call(op: u8, t: Table, w: &[u64]) -> Table {
+pub fn call(op: u8, t: Table, w: &[u64]) -> Table {
     match op {
         op::GET => get(t, w),
         op::HOLDS => holds(t, w),

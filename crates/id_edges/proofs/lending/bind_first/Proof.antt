@@ -1,4 +1,4 @@
--- `edges::lending::bind_first` meets its contract: the walk is `walks`' FirstLent, at `lent::bind`. Assumes nothing.
+-- `id_edges::lending::bind_first` meets its contract: the walk is `walks`' FirstLent, at `lent::bind`. Assumes nothing.
 use mathlib.Core.Path.{refl}
 use lib.Dec.{lit<}
 use contract.Running.{givenOf, tables, tablesOf}
@@ -16,10 +16,10 @@ use Rattle.cap.proofs.slot.Slot.Laws as E′
 use Rattle.lent.proofs.bind as g
 use Rattle.lent.proofs.bind.Symbol as g-def
 use Rattle.lent.proofs.bind.Met as g-thm
-use Rattle.edges.proofs.lending.bind_first.Key.{name as #f}
-use Rattle.edges.proofs.lending.bind_first as f
-use Rattle.edges.proofs.lending.bind_first.Statement as stated
-use Rattle.edges.proofs.lending.bind_first.Code as code
+use Rattle.id_edges.proofs.lending.bind_first.Key.{name as #f}
+use Rattle.id_edges.proofs.lending.bind_first as f
+use Rattle.id_edges.proofs.lending.bind_first.Statement as stated
+use Rattle.id_edges.proofs.lending.bind_first.Code as code
 
 abbrev entry : Kind
 entry = record { type = B.the-type; laws = B′.the-laws; plainly = B′.the-plain }
