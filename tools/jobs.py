@@ -11,7 +11,7 @@ A FILE is words, one operation a line, where its first word is one of letters:
     new MAILBOXES ENDPOINTS DEPTH [TAG=ROW ..]    everything fresh, up to 16 tags bound to rows: new 4 8 2 pt-PT=3 pt-BR=4
     open TAG from ROW                             a job for the tag, whose sentences this row sends
     close PLACE                                   the job that is open there
-    send ROW SLOT TAG A B                         a message of three numbers
+    send ROW SLOT TAG A B                         a message of three numbers, which comes out with this row
     receive ROW SLOT
     park ROW SLOT task SLOT EPOCH                 receives, or has this task wait
     row ROW                                       shows its four slots

@@ -134,7 +134,7 @@ class Teller:
 
     def send(self, number, operands):
         slot = operands.slot()
-        message = words.message([operands.number(4), operands.number(8), operands.number(8)])
+        message = words.message(operands.number(4), operands.number(8), operands.number(8))
 
         def accepted(*waiter):
             job = self.slots[slot]
@@ -150,7 +150,7 @@ class Teller:
         slot = operands.slot()
 
         def accepted(*message):
-            return f"row {slot[0]} receives by {slot_of(slot)}, from {self.slots[slot]}: {words.message(message)}"
+            return f"row {slot[0]} receives by {slot_of(slot)}, from {self.slots[slot]}: {words.given(*message)}"
 
         def refused(refusal):
             return self.by_slot(slot, "receive", refusal) or f"no message waits for {self.slots[slot]}"
@@ -164,7 +164,7 @@ class Teller:
         def accepted(given, *message):
             job = self.slots[slot]
             if given:
-                return f"{task} is given by {slot_of(slot)} of row {slot[0]}, from {job}: {words.message(message)}"
+                return f"{task} is given by {slot_of(slot)} of row {slot[0]}, from {job}: {words.given(*message)}"
             job.waiter = task
             return f"{task} waits at {slot_of(slot)} of row {slot[0]}, for {job}"
 

@@ -27,6 +27,6 @@ if __name__ == "__main__":
             example=os.path.join("vectors", "log", "example.hex"),
             is_example="document 01's example",
             forms=(logfile.HEX,),
-            say=lambda log: words.say,
+            say=words.beside,
         )
     )

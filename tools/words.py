@@ -5,10 +5,11 @@ words.py < LINES: each line in words.
 import sys
 
 MARK = bytes.fromhex("4B43")
+SEND = 2
 
 # Each operation and the length of its operands.
 OPERATIONS = [
-    ("new", 3), ("create", 1), ("send", 24), ("receive", 4), ("park", 8), ("queued", 4), ("revoke", 4),
+    ("new", 3), ("create", 1), ("send", 25), ("receive", 4), ("park", 8), ("queued", 4), ("revoke", 4),
     ("register", 20), ("release", 20), ("holders", 4), ("clear waiter", 4), ("note authority", 0), ("note state", 0),
     ("get", 2), ("holds", 5), ("seed", 21), ("install", 6), ("transfer", 4), ("drain", 1),
     ("task mint", 4), ("task lookup", 4), ("task end", 4), ("IRQ mint", 4), ("IRQ lookup", 4),
@@ -47,6 +48,21 @@ def say(line):
     return said(line, KINDS, "a replay")
 
 
+def beside(log):
+    """A function that says the lines of this log's replay, a send with the row that its record names."""
+    rows = {number: record[-1] for number, (_, record) in enumerate(records(log), 1) if record[2] == SEND}
+
+    def bad(offset, number):
+        send = number == 25 and log[offset + 2 : offset + 3] == bytes([SEND])
+        return faulty(offset, number) + (f": the sending row is {log[offset + 27]}, and rows are 0 to 53" if send else "")
+
+    def answer(record, operation, *rest):
+        return answered(record, operation, *rest, row=rows[record] if operation == SEND else None)
+
+    kinds = {**KINDS, "bad": bad, "": answer}
+    return lambda line: said(line, kinds, "this replay")
+
+
 def said(line, kinds, of):
     """A line in words: by its first word, end or bad, or by the empty one where it has only numbers."""
     first, *rest = line.split() or [""]
@@ -70,9 +86,10 @@ def faulty(offset, number, what="log"):
     return f"the {what} cannot be read from offset {offset} on: {refusal(number)}"
 
 
-def answered(record, operation, number, *values):
+def answered(record, operation, number, *values, row=None):
     said = refused(operation, number, values) if number else accepted(operation, values)
-    return f"record {record}: {name(operation)} {said}"
+    sender = "" if row is None else f" from row {row}"
+    return f"record {record}: {name(operation)}{sender} {said}"
 
 
 def refusal(number):
@@ -101,9 +118,9 @@ def shown(operation, values):
     if operation in (2, 6, 8, 24, 25):
         return ", wakes " + (" and ".join(tasks(values)) or "nobody")
     if operation == 3:
-        return message(values)
+        return given(*values)
     if operation == 4:
-        return message(values[1:]) if values[0] else ", the task waits"
+        return given(*values[1:]) if values[0] else ", the task waits"
     if operation == 5:
         return f"{counted(values[0], 'message')} queued"
     if operation == 9:
@@ -127,8 +144,12 @@ def shown(operation, values):
     return ""
 
 
-def message(values):
-    return f"message with tag {values[0]}, a {values[1]}, b {values[2]}"
+def message(tag, a, b):
+    return f"message with tag {tag}, a {a}, b {b}"
+
+
+def given(tag, a, b, row):
+    return f"{message(tag, a, b)}, from row {row}"
 
 
 def tasks(values):
@@ -152,5 +173,5 @@ def counted(n, one, many=None):
 KINDS = {"end": ended, "bad": faulty, "": answered}
 
 if __name__ == "__main__":
-    for given in sys.stdin:
-        print(say(given))
+    for line in sys.stdin:
+        print(say(line))

@@ -33,6 +33,16 @@ impl<const MAILBOXES: usize, const ENDPOINTS: usize, const DEPTH: usize>
         self.endpoints[endpoint].mailbox.into()
     }
 
+    pub fn ring_of(&self, endpoint: usize) -> Option<crate::views::Ring> {
+        let mailbox = usize::from(self.endpoints.get(endpoint)?.mailbox);
+        let &Mailbox { head, tail, .. } = self.mailboxes.get(mailbox)?;
+        Some(crate::views::Ring {
+            mailbox,
+            head,
+            tail,
+        })
+    }
+
     pub fn copied(&self) -> Self {
         Self {
             endpoints: self.endpoints,

@@ -5,6 +5,7 @@ use crate::cap::{CapId, SlotError};
 use crate::ipc::{CreateError, Message, RecvError, SendError};
 use crate::records::Operands;
 use crate::runqueue::TaskId;
+use crate::stamps::Stamped;
 
 pub const BAD_CAP: u8 = 1;
 pub const BAD_SLOT: u8 = 10;
@@ -37,13 +38,13 @@ pub fn sent(answer: Result<Option<TaskId>, SendError>) -> Answer {
     }
 }
 
-pub fn received(answer: Result<Message, RecvError>) -> Answer {
-    answer.map_or_else(unreceived, |message| done(parts(message)))
+pub fn received(answer: Result<Stamped, RecvError>) -> Answer {
+    answer.map_or_else(unreceived, |given| done(parts(given)))
 }
 
-pub fn parked(answer: Result<Option<Message>, RecvError>) -> Answer {
+pub fn parked(answer: Result<Option<Stamped>, RecvError>) -> Answer {
     match answer {
-        Ok(Some(message)) => done([1].into_iter().chain(parts(message))),
+        Ok(Some(given)) => done([1].into_iter().chain(parts(given))),
         Ok(None) => done([0u64]),
         Err(refusal) => unreceived(refusal),
     }
@@ -74,8 +75,9 @@ pub fn message(o: &mut Operands) -> Message {
     }
 }
 
-fn parts(message: Message) -> [u64; 3] {
-    [message.tag.into(), message.a, message.b]
+/// The stamp last.
+fn parts(Stamped { message, row }: Stamped) -> [u64; 4] {
+    [message.tag.into(), message.a, message.b, row.into()]
 }
 
 pub fn waiter(task: Option<TaskId>) -> Vec<u64> {

@@ -1,6 +1,7 @@
 //! Damaged logs and scripts: a sound one, and at one of its records a fault.
 
 use crate::draft::{Draft, Drawn};
+use crate::edges;
 use crate::random::Random;
 use crate::records::{HEAD, Played};
 use crate::tables::Tables;
@@ -14,7 +15,7 @@ pub trait Damaged: Drawn {
 }
 
 impl Damaged for Tables {
-    const FAULTS: Faults<Self> = &[|d| bad_flag(&mut d.random), bad_list];
+    const FAULTS: Faults<Self> = &[|d| bad_flag(&mut d.random), bad_list, bad_sender];
 }
 
 /// The draft's bytes with a fault put in before a drawn record, or at the end.
@@ -53,7 +54,7 @@ fn any<D: Drawn>(d: &mut Draft<D>) -> Vec<u8> {
 /// or before the last byte; at times of a record that has another fault too,
 /// which then is not the one to report.
 fn cut<D: Damaged>(d: &mut Draft<D>) -> Vec<u8> {
-    let mut record = match d.random.below(4) as usize {
+    let mut record = match d.random.below(6) as usize {
         i if i < D::FAULTS.len() => D::FAULTS[D::FAULTS.len() - 1 - i](d),
         _ => any(d),
     };
@@ -121,5 +122,12 @@ fn bad_list(d: &mut Draft<Tables>) -> Vec<u8> {
         place.fill(0);
         place[1 + d.random.below(4) as usize] = d.random.pick(&[1, 128, 255]);
     }
+    record
+}
+
+/// A message from a row from 54 up.
+fn bad_sender(d: &mut Draft<Tables>) -> Vec<u8> {
+    let mut record = whole(d, 2);
+    *record.last_mut().expect("operands") = d.random.pick(&edges::BAD_SENDERS);
     record
 }

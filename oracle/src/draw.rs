@@ -98,7 +98,10 @@ impl<D: Drawn<Known = Known>> Draw<'_, D> {
         let sent = self.d.known.sent;
         match operation {
             1 => vec![self.random().below(2) as u8],
-            2 => [bytes(self.id(End::Send)), self.message(sent)].concat(),
+            2 => {
+                let (id, message) = (self.id(End::Send), self.message(sent));
+                [bytes(id), message, vec![self.sender()]].concat()
+            }
             3 => bytes(self.id(End::Receive)),
             4 => [bytes(self.id(End::Receive)), self.task()].concat(),
             5 | 6 => bytes(self.id(End::Either)),
@@ -111,6 +114,16 @@ impl<D: Drawn<Known = Known>> Draw<'_, D> {
             17 => self.two_places(),
             18 | 25 => vec![self.row()],
             _ => Vec::new(),
+        }
+    }
+
+    /// A row that may send, the first and the last oftener. It is drawn aside, so
+    /// that without it a log is what it was when messages had no sender.
+    fn sender(&mut self) -> u8 {
+        let mut aside = self.random().aside();
+        match aside.below(8) {
+            0 => aside.pick(&edges::SENDERS),
+            _ => aside.below(ROWS as u64) as u8,
         }
     }
 

@@ -20,7 +20,7 @@ pub fn dump(tables: &Tables) -> String {
     ];
     fields(&mut text, "counts", &counts);
     for (i, it) in channels.mailboxes().iter().enumerate() {
-        mailbox(&mut text, i, it);
+        mailbox(&mut text, i, it, &channels.stamps()[i]);
     }
     for (i, it) in channels.endpoints().iter().enumerate() {
         endpoint(&mut text, i, it);
@@ -46,7 +46,7 @@ fn fields<N: Display>(text: &mut String, of: &str, fields: &[(&str, N)]) {
     }
 }
 
-fn mailbox(text: &mut String, i: usize, it: &Mailbox) {
+fn mailbox(text: &mut String, i: usize, it: &Mailbox, stamps: &[u8]) {
     let of = format!("mailbox {i}");
     let numbers = [
         ("live", it.live.into()),
@@ -61,8 +61,8 @@ fn mailbox(text: &mut String, i: usize, it: &Mailbox) {
         format!("1 {} {}", task.slot(), task.epoch())
     });
     fields(text, &of, &[("waiter", waiter)]);
-    for (p, place) in it.places.iter().enumerate() {
-        let place = format!("{p} {} {} {}", place.tag, place.a, place.b);
+    for (p, (place, stamp)) in it.places.iter().zip(stamps).enumerate() {
+        let place = format!("{p} {} {} {} {stamp}", place.tag, place.a, place.b);
         fields(text, &of, &[("place", place)]);
     }
 }

@@ -46,6 +46,10 @@ pub const TASKS: [[u16; 2]; 8] = [
 ];
 
 pub const ROWS: [u8; 4] = [53, 54, 55, 255];
+/// Rows that may send, and rows that may not: 75 is what a reader finds where a
+/// send has no row and another record follows.
+pub const SENDERS: [u8; 2] = [0, 53];
+pub const BAD_SENDERS: [u8; 5] = [54, 55, 75, 128, 255];
 pub const SLOTS: [u8; 4] = [3, 4, 5, 255];
 
 /// A task's one number, or a cookie.

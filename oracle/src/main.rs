@@ -19,6 +19,7 @@ mod random;
 mod records;
 mod replay;
 mod rounds;
+mod stamps;
 mod tables;
 mod tally;
 mod tasks;

@@ -4,6 +4,7 @@ use crate::answers::*;
 use crate::cap::CapId;
 use crate::capslots::TransferError;
 use crate::records::Operands;
+use crate::stamps::Stamped;
 use crate::tables::{ROWS, SLOTS, Tables};
 use std::array;
 use std::panic::{self, AssertUnwindSafe};
@@ -16,7 +17,10 @@ pub fn apply(t: &mut Tables, operation: u8, mut o: Operands) -> Result<Answer, S
             Ok(channel) => done([channel.send.raw(), channel.recv.raw()]),
             Err(refusal) => uncreated(refusal),
         },
-        2 => sent(channels.send(o.id(), message(&mut o))),
+        2 => {
+            let (id, message, row) = (o.id(), message(&mut o), o.byte());
+            sent(channels.send(id, Stamped { message, row }))
+        }
         3 => received(channels.try_recv(o.id())),
         4 => parked(channels.park(o.id(), o.task())),
         5 => found(channels.queued(o.id()).ok().map(|n| n as u64)),

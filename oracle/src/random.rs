@@ -15,6 +15,11 @@ impl Random {
         x ^ (x >> 31)
     }
 
+    /// A sequence of its own from here on, which takes nothing from this one.
+    pub fn aside(&self) -> Self {
+        Self(!self.0)
+    }
+
     /// A number below `bound`, which is not 0.
     pub fn below(&mut self, bound: u64) -> u64 {
         self.next() % bound

@@ -24,7 +24,7 @@ pub trait Played: Sized + 'static {
     /// As it is before the first record.
     fn start() -> Self;
 
-    /// Whether no flag and no list among the operands is malformed.
+    /// Whether no flag, no list and no sending row among the operands is malformed.
     fn fit(_operation: u8, _operands: Operands) -> bool {
         true
     }

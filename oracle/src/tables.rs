@@ -5,7 +5,8 @@ use crate::ipc::{
     Channel, CreateError, Message, QueuedError, RecvError, Refusals, RevokeError, SendError, Table,
 };
 use crate::runqueue::TaskId;
-use crate::views::{Endpoint, Mailbox};
+use crate::stamps::StampedChannels;
+use crate::views::{Endpoint, Mailbox, Ring};
 use crate::{capslots, irqcap, taskcap};
 
 include!(concat!(env!("OUT_DIR"), "/sizes.rs"));
@@ -14,7 +15,7 @@ pub const ROWS: usize = 54;
 pub const SLOTS: usize = 4;
 
 pub struct Tables {
-    pub channels: Box<dyn Channels>,
+    pub channels: StampedChannels,
     pub rows: capslots::Table<ROWS, SLOTS>,
     pub tasks: taskcap::Table,
     pub irqs: irqcap::Table,
@@ -30,7 +31,7 @@ impl Tables {
         }
         let channels = fresh(sizes).ok_or(format!("no table of sizes {sizes:?} is built"))?;
         Ok(Some(Self {
-            channels,
+            channels: StampedChannels::new(channels),
             rows: capslots::Table::new(),
             tasks: taskcap::Table::new(),
             irqs: irqcap::Table::new(),
@@ -65,6 +66,9 @@ pub trait Channels {
     fn endpoints(&self) -> Vec<Endpoint>;
     /// The mailbox that the endpoint of an id names.
     fn mailbox_of(&self, id: CapId) -> usize;
+    /// That mailbox and the ends of its ring; nothing where there is no such
+    /// endpoint, or no mailbox.
+    fn ring_of(&self, id: CapId) -> Option<Ring>;
     fn copied(&self) -> Box<dyn Channels>;
 }
 
@@ -142,6 +146,10 @@ impl<const M: usize, const E: usize, const D: usize> Channels for Table<M, E, D>
 
     fn mailbox_of(&self, id: CapId) -> usize {
         self.mailbox_of(id.index().into())
+    }
+
+    fn ring_of(&self, id: CapId) -> Option<Ring> {
+        self.ring_of(id.index().into())
     }
 
     fn copied(&self) -> Box<dyn Channels> {

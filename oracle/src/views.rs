@@ -14,6 +14,13 @@ pub struct Mailbox {
     pub places: Vec<Message>,
 }
 
+/// Where a mailbox's ring is next written, and next read.
+pub struct Ring {
+    pub mailbox: usize,
+    pub head: usize,
+    pub tail: usize,
+}
+
 pub struct Endpoint {
     pub live: bool,
     pub generation: u16,

@@ -25,6 +25,8 @@ pub const REFUSED_SIZES: Ways = &["mailboxes", "endpoints", "depth 0", "depth"];
 pub const NO_ENDPOINT: Ways = &["none free", "one free"];
 pub const OUT_OF_RANGE: Ways = &["row", "slot"];
 pub const PARKED: Ways = &["parks", "message"];
+/// Of a message that is given, the row that sent it.
+pub const SENDERS: Ways = &["row 0", "row 53", "another row"];
 pub const CUT: Ways = &["mark", "operation", "operands"];
 
 impl Covered for Tables {
@@ -34,7 +36,7 @@ impl Covered for Tables {
         ("new", &[(0, ONE), (20, REFUSED_SIZES)]),
         ("create", &[(0, &["lasting", "ephemeral"]), (6, ONE), (7, NO_ENDPOINT)]),
         ("send", &[(0, SOME), (1, UNOPENED), (2, ONE)]),
-        ("receive", &[(0, ONE), (1, UNOPENED), (3, ONE)]),
+        ("receive", &[(0, SENDERS), (1, UNOPENED), (3, ONE)]),
         ("park", &[(0, PARKED), (1, UNOPENED), (4, ONE), (5, ONE)]),
         ("queued", &[(0, ONE), (1, NO_END)]),
         ("revoke", &[(0, SOME), (1, NO_END)]),
@@ -61,7 +63,7 @@ impl Covered for Tables {
         ("give", &[(0, &["registers", "opens nothing"]), (10, TAKEN)]),
         ("counts", &[(0, ONE)]),
         ("the log", &[(22, ONE), (23, ONE), (24, CUT),
-            (25, &["flag", "presence", "id without presence"]), (28, ONE)]),
+            (25, &["flag", "presence", "id without presence", "sending row"]), (28, ONE)]),
     ];
 
     fn way(&self, operation: u8, mut o: Operands, number: u8, values: &[u64]) -> &'static str {
@@ -70,6 +72,7 @@ impl Covered for Tables {
             (1, 0) => ["lasting", "ephemeral"][o.small()],
             (1, 7) => endpoints(self),
             (2 | 6, 0) => amount(values[0]),
+            (3, 0) => sender(values),
             (4, 0) => parked(values),
             (2..=6 | 9, 1) => unopened(self, o.id()),
             (8 | 24 | 25, 0) => woken(values),
@@ -109,6 +112,7 @@ impl Covered for Tables {
         match (number, rest) {
             (24, _) => cut(rest),
             (25, [_, _, 1, ..]) => "flag",
+            (25, [_, _, 2, ..]) => "sending row",
             (25, [.., _]) => {
                 let first = if matches!(rest[2], 15 | 24) { 4 } else { 3 };
                 let mut places = rest[first..].chunks_exact(5);
@@ -148,6 +152,15 @@ pub fn endpoints(t: &Tables) -> &'static str {
 
 pub fn parked(values: &[u64]) -> &'static str {
     PARKED[values[0] as usize]
+}
+
+/// Of tag, a, b and the row.
+pub fn sender(values: &[u64]) -> &'static str {
+    match values[3] {
+        0 => SENDERS[0],
+        53 => SENDERS[1],
+        _ => SENDERS[2],
+    }
 }
 
 /// Of a slot and the number of slots, which is 0 for a bad row.

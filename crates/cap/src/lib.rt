@@ -6,6 +6,7 @@ ghost use Rattle.cap.specs.Rights.{noRights, containsAll, unionOf};
 mod slot;
 mod word;
 
+pub use slot::ROWS;
 pub use slot::Slot;
 pub use slot::SlotAnswer;
 pub use slot::from_slot;

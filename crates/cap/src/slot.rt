@@ -1,10 +1,13 @@
-// A slot of a task's capability row, and the row read at an index.
+// A slot of a task's capability row, the row read at an index, and how many rows there are.
 ghost use mathlib.Core.Path.{_≡_};
 ghost use Rattle.shown.specs.Shown.{shown};
 ghost use Rattle.cap.specs.Slot.{fromSlot, slotNumber, slotValues};
 use crate::CapId;
 use laws::refusals;
 use shown::Shown;
+
+// A task's row is named by a number below this.
+pub const ROWS: usize = 54;
 
 // A place for an id. A vacant one is all zero, and its id is never read; raw 0 present is an id.
 pub struct Slot {

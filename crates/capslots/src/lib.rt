@@ -3,6 +3,7 @@ ghost use mathlib.Core.Path.{_≡_};
 ghost use Rattle.capslots.specs.Table.{freshTable};
 ghost use Rattle.capslots.specs.Rows.{namesId, getOf, holdsOf, seedOf, installOf, drainOf};
 use cap::CapId;
+use cap::ROWS;
 use cap::Slot;
 use cap::SlotAnswer;
 
@@ -20,8 +21,6 @@ pub use moves::transfer;
 pub use moves::transfer_bounds;
 pub use vacancies::empty_slot;
 pub use vacancies::forget;
-
-pub const ROWS: usize = 54;
 
 pub const SLOTS: usize = 4;
 

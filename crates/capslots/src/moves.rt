@@ -2,13 +2,13 @@
 ghost use mathlib.Core.Path.{_≡_};
 ghost use Rattle.cap.specs.Id.{classOf};
 ghost use Rattle.capslots.specs.Transfer.{isEndpoint, boundsOf, transferOf};
-use crate::ROWS;
 use crate::SLOTS;
 use crate::Table;
 use crate::VACANT;
 use crate::answers::TransferAnswer;
 use cap::CapClass;
 use cap::CapId;
+use cap::ROWS;
 use cap::Slot;
 
 pub struct Transferred {

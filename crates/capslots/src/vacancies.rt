@@ -1,13 +1,13 @@
 // Vacant slots: the lowest of a row, and those that two ids leave behind which are forgotten.
 ghost use mathlib.Core.Path.{_≡_};
 ghost use Rattle.capslots.specs.Rows.{emptyIn, emptySlotOf, forgetIn, forgetRow, forgottenOf};
-use crate::ROWS;
 use crate::Row;
 use crate::SLOTS;
 use crate::Table;
 use crate::VACANT;
 use crate::names;
 use cap::CapId;
+use cap::ROWS;
 use cap::Slot;
 use laws::Found;
 

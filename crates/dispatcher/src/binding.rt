@@ -3,7 +3,7 @@ ghost use mathlib.Core.Path.{_≡_};
 ghost use Prim.Native.Nat.{_<_};
 ghost use Rattle.dispatcher_rules.specs.Bound.{sameTag, newTag, boundTest};
 ghost use Rattle.dispatcher_rules.specs.Make.{makeOf};
-use capslots::ROWS;
+use cap::ROWS;
 use dispatcher_rules::answers::MakeAnswer;
 use dispatcher_rules::answers::Making;
 use dispatcher_rules::state::Dispatcher;

@@ -18,7 +18,7 @@ use dispatcher_rules::answers::SlotSendAnswer;
 use dispatcher_rules::answers::SlotSending;
 use dispatcher_rules::state::Dispatcher;
 use dispatcher_rules::state::Tag;
-use ipc_rules::state::Message;
+use ipc_rules::state::Payload;
 use ipc_rules::state::Table as Channels;
 use ipc_rules::state::TaskId;
 
@@ -65,16 +65,16 @@ pub fn close(d: Dispatcher, rows: Rows, channels: Channels, place: usize) -> Job
     inner::close(d, rows, channels, place)
 }
 
-// Sends by the id in a slot.
+// Sends by the id in a slot; the message is stamped with the row.
 pub fn send(
     d: Dispatcher,
     rows: Rows,
     channels: Channels,
     row: usize,
     slot: usize,
-    msg: Message,
+    payload: Payload,
 ) -> SlotSending
-    ensures { λ r. ⌜ r ≡ slotSendCall d rows channels row slot msg ⌝ }
+    ensures { λ r. ⌜ r ≡ slotSendCall d rows channels row slot payload ⌝ }
 {
     if !ready(d, channels) {
         return SlotSending {
@@ -84,7 +84,7 @@ pub fn send(
             channels,
         };
     }
-    inner::send(d, rows, channels, row, slot, msg)
+    inner::send(d, rows, channels, row, slot, payload)
 }
 
 // Tries to receive by the id in a slot.

@@ -10,7 +10,7 @@ use Rattle.capslots.specs.declared.Table.{Table as Rows}
 use Rattle.capslots.proofs.Forgotten.{forgotten-first, forgotten-second}
 use Rattle.ipc_rules.specs.Sound.{Sound}
 use Rattle.ipc_rules.specs.Create.{createOf}
-use Rattle.ipc_rules.specs.declared.state.Message.{Message}
+use Rattle.ipc_rules.specs.declared.state.Payload.{Payload}
 use Rattle.ipc_rules.specs.declared.state.TaskId.{TaskId}
 use Rattle.ipc_rules.specs.declared.state.Table.{Table as Channels}
 use Rattle.ipc_rules.proofs.Openings.{all-opened}
@@ -90,11 +90,11 @@ module _ (d : Dispatcher) (rows : Rows) (t : Channels) where
 
   -- ---- by row and slot
   module _ (w : Ready d t) (r s : ℕ) where
-    pub send-ready : (m : Message) → Ready (slotSendOf d rows t r s m .dispatcher) (slotSendOf d rows t r s m .channels)
+    pub send-ready : (p : Payload) → Ready (slotSendOf d rows t r s p .dispatcher) (slotSendOf d rows t r s p .channels)
     unfolding slotSendOf
-    send-ready m =
+    send-ready p =
         all-slotted (λ (o : SlotSending). Ready (o .dispatcher) (o .channels)) _ _ _ _ (λ _ _ _. w) (λ _ _. w)
-        (λ c _. record { bound = w .bound; sound = send-kept t c m (w .sound) })
+        (λ c _. record { bound = w .bound; sound = send-kept t c p r (w .sound) })
 
     pub receive-ready : Ready (slotRecvOf d rows t r s .dispatcher) (slotRecvOf d rows t r s .channels)
     unfolding slotRecvOf

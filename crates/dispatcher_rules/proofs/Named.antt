@@ -1,11 +1,11 @@
--- A slot that names an id stands in a row that holds it. Assumes nothing.
+-- A slot that names an id stands in a row that holds it, and that row is one of the 54. Assumes nothing.
 use mathlib.Core.Path.{_≡_, refl, ap}
 use mathlib.Core.Bool.{Bool, true, false, _||_}
 use mathlib.Core.Logic.{⊎-elim}
 use Prim.Native.Nat.{ℕ, zero, suc, _<_}
 use native.Mathlib.Nat.{not-suc-le-zero, le-of-suc-le-suc, eq-or-lt-of-le}
 use native.Mathlib.Omega.{arith}
-use borrow.Author.Tests.{ltb-true, eq-eqb}
+use borrow.Author.Tests.{ltb-true, leb-false, eq-eqb}
 use lib.Dec.{leb}
 use Rattle.laws.specs.Pick.{pick}
 use Rattle.laws.specs.Every.{some}
@@ -47,3 +47,10 @@ module _ (rows : Rows) (r s : ℕ) (c : CapId) where
       (λ l. all-pick Held _ _ _
       (λ below. all-pick Held _ _ _ (λ present e. held l (ltb-true s 4 below) (slot-names present (cc))) (λ _ e. absurd (omega (arith, ap slotNumber e))))
       (λ _ e. absurd (omega (arith, ap slotNumber e))))
+
+  InRows : SlotAnswer → Type 0
+  InRows o = o ≡ Names c → r < 54
+
+  pub names-row : getOf rows r s ≡ Names c → r < 54
+  unfolding getOf InRows
+  names-row = all-pick InRows _ _ _ (λ _ e. absurd (omega (arith, ap slotNumber e))) (λ l _. leb-false 54 r l)

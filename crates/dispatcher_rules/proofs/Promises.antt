@@ -9,21 +9,23 @@ use Rattle.laws.proofs.Cases.{all-pick, not-both}
 use Rattle.cap.specs.declared.CapId.{CapId}
 use Rattle.capslots.specs.Rows.{holdsOf}
 use Rattle.capslots.specs.declared.Table.{Table as Rows}
-use Rattle.ipc_rules.specs.declared.state.Message.{Message}
+use Rattle.ipc_rules.specs.declared.state.Payload.{Payload}
 use Rattle.ipc_rules.specs.declared.state.TaskId.{TaskId}
 use Rattle.ipc_rules.specs.declared.state.Waiter.{Waiter}
 use Rattle.ipc_rules.specs.declared.state.Table.{Table as Channels}
 use Rattle.ipc_rules.specs.declared.answers.SendAnswer.{SendAnswer}
+use Rattle.ipc_rules.specs.declared.answers.SendAnswer.the-variants.{BadRow}
 use Rattle.ipc_rules.specs.declared.answers.RecvAnswer.{RecvAnswer}
 use Rattle.ipc_rules.specs.declared.answers.ParkAnswer.{ParkAnswer}
+use Rattle.ipc_rules.proofs.AfterSend.{row-passes}
 use Rattle.ipc_sound.proofs.Decide.{test-of as sound-passes}
-use Rattle.dispatcher_rules.specs.Answers.{makeNumber, closeNumber}
+use Rattle.dispatcher_rules.specs.Answers.{makeNumber, closeNumber, slotSendNumber}
 use Rattle.dispatcher_rules.specs.State.{noJob, jobAt}
 use Rattle.dispatcher_rules.specs.Bound.{Bound}
 use Rattle.dispatcher_rules.specs.Make.{makeOf}
 use Rattle.dispatcher_rules.specs.Border.{readyTest, closeJobCall, slotSendCall, slotRecvCall, slotParkCall}
 use Rattle.dispatcher_rules.specs.Slots.{slotSendOf, slotRecvOf, slotParkOf}
-use Rattle.dispatcher_rules.specs.Promises.{Unchanged, Forgotten, UnaskedSlot, ReadyPasses, MadeBound, BoundMade, RefusedMaking, MadeClosed, RefusedOpening, RefusedClosing, ForgottenByClosing}
+use Rattle.dispatcher_rules.specs.Promises.{Unchanged, Forgotten, UnaskedSlot, SlotRowPasses, ReadyPasses, MadeBound, BoundMade, RefusedMaking, MadeClosed, RefusedOpening, RefusedClosing, ForgottenByClosing}
 use Rattle.dispatcher_rules.specs.declared.state.Job.{Job}
 use Rattle.dispatcher_rules.specs.declared.state.Dispatcher.{Dispatcher}
 use Rattle.dispatcher_rules.specs.declared.answers.Making.{Making}
@@ -37,7 +39,7 @@ use Rattle.dispatcher_rules.specs.declared.answers.SlotSendAnswer.the-va
 use Rattle.dispatcher_rules.specs.declared.answers.SlotRecvAnswer.the-variants as toReceive
 use Rattle.dispatcher_rules.specs.declared.answers.SlotParkAnswer.the-variants as toPark
 use Rattle.dispatcher_rules.proofs.Binds.{bound-of, test-of}
-use Rattle.dispatcher_rules.proofs.Named.{names-held}
+use Rattle.dispatcher_rules.proofs.Named.{names-held, names-row}
 use Rattle.dispatcher_rules.proofs.Ways.{all-slotted, guarded-ways}
 use Rattle.dispatcher_rules.proofs.Calls.{same, open-call-refused, close-call-refused, close-forgets}
 
@@ -94,9 +96,9 @@ forgotten-by-closing d rows t p w = closed-forgets d p w rows t
 
 -- ---- by row and slot
 module _ (d : Dispatcher) (rows : Rows) (t : Channels) (r s : ℕ) where
-  unsent : (m : Message) → let o = slotSendCall d rows t r s m in ((a : SendAnswer) → o .answer ≡ toSend.Answered a → ⊥) → Unchanged d rows t (o .dispatcher) (o .rows) (o .channels)
+  unsent : (p : Payload) → let o = slotSendCall d rows t r s p in ((a : SendAnswer) → o .answer ≡ toSend.Answered a → ⊥) → Unchanged d rows t (o .dispatcher) (o .rows) (o .channels)
   unfolding slotSendOf
-  unsent m =
+  unsent p =
       guarded-ways Keeps d t _ _ (λ _. same d rows t) (all-slotted Keeps _ _ _ _ (λ _ _ _ _. same d rows t) (λ _ _ _. same d rows t) (λ c _ n. absurd (n _ refl)))
     where
       Keeps : SlotSending → Type 0
@@ -120,6 +122,16 @@ module _ (d : Dispatcher) (rows : Rows) (t : Channels) (r s : ℕ) where
 
 pub unasked-slot : UnaskedSlot
 unasked-slot d rows t r s = record { send = unsent d rows t r s; receive = unreceived d rows t r s; park = unparked d rows t r s }
+
+pub slot-row-passes : SlotRowPasses
+unfolding slotSendOf
+slot-row-passes d rows t r s p =
+    guarded-ways Passes d t _ _ (λ e. omega (arith, ap slotSendNumber e))
+    (all-slotted Passes _ _ _ _ (λ _ _ _ e. omega (arith, ap slotSendNumber e)) (λ _ _ e. omega (arith, ap slotSendNumber e))
+    (λ c e q. row-passes t c p r (names-row rows r s c e) (ap slotSendNumber q)))
+  where
+    Passes : SlotSending → Type 0
+    Passes o = o .answer ≡ toSend.Answered BadRow → ⊥
 
 -- ---- the test
 pub ready-passes : ReadyPasses

@@ -5,7 +5,7 @@ use Prim.Native.Nat.{ℕ}
 use Rattle.laws.specs.Pick.{pick}
 use Rattle.capslots.specs.declared.Table.{Table as Rows}
 use Rattle.ipc_rules.specs.Sound.{Sound}
-use Rattle.ipc_rules.specs.declared.state.Message.{Message}
+use Rattle.ipc_rules.specs.declared.state.Payload.{Payload}
 use Rattle.ipc_rules.specs.declared.state.TaskId.{TaskId}
 use Rattle.ipc_rules.specs.declared.state.Table.{Table as Channels}
 use Rattle.ipc_sound.specs.SoundTest.{soundTest}
@@ -47,8 +47,8 @@ module _ (d : Dispatcher) (rows : Rows) (t : Channels) where
   abbrev pub closeJobCall : ℕ → JobClosing
   closeJobCall p = guardedBy d t (closeRefused close.the-variants.BadTable d rows t) (closeJobOf d rows t p)
 
-  abbrev pub slotSendCall : ℕ → ℕ → Message → SlotSending
-  slotSendCall r s m = guardedBy d t (slotSent send.the-variants.BadTable d rows t) (slotSendOf d rows t r s m)
+  abbrev pub slotSendCall : ℕ → ℕ → Payload → SlotSending
+  slotSendCall r s p = guardedBy d t (slotSent send.the-variants.BadTable d rows t) (slotSendOf d rows t r s p)
 
   abbrev pub slotRecvCall : ℕ → ℕ → SlotReceiving
   slotRecvCall r s = guardedBy d t (slotReceived recv.the-variants.BadTable d rows t) (slotRecvOf d rows t r s)

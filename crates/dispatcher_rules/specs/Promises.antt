@@ -7,11 +7,12 @@ use Rattle.cap.specs.declared.CapId.{CapId}
 use Rattle.cap.specs.declared.slot.SlotAnswer.the-variants.{Names}
 use Rattle.capslots.specs.Rows.{getOf, holdsOf}
 use Rattle.capslots.specs.declared.Table.{Table as Rows}
-use Rattle.ipc_rules.specs.declared.state.Message.{Message}
+use Rattle.ipc_rules.specs.declared.state.Payload.{Payload}
 use Rattle.ipc_rules.specs.declared.state.TaskId.{TaskId}
 use Rattle.ipc_rules.specs.declared.state.Waiter.{Waiter}
 use Rattle.ipc_rules.specs.declared.state.Table.{Table as Channels}
 use Rattle.ipc_rules.specs.declared.answers.SendAnswer.{SendAnswer}
+use Rattle.ipc_rules.specs.declared.answers.SendAnswer.the-variants.{BadRow}
 use Rattle.ipc_rules.specs.declared.answers.RecvAnswer.{RecvAnswer}
 use Rattle.ipc_rules.specs.declared.answers.ParkAnswer.{ParkAnswer}
 use Rattle.dispatcher_rules.specs.Answers.{openNumber, closeNumber}
@@ -76,12 +77,16 @@ ForgottenByClosing =
 
 -- by row and slot: where the channel table's own call was not made, for the slot (8, 9) or the tables (27), nothing has changed
 pub record Unasked (d : Dispatcher) (rows : Rows) (t : Channels) (r s : ℕ) : Type 0 where
-  pub send : (m : Message) → let o = slotSendCall d rows t r s m in ((a : SendAnswer) → o .answer ≡ toSend.Answered a → ⊥) → Unchanged d rows t (o .dispatcher) (o .rows) (o .channels)
+  pub send : (p : Payload) → let o = slotSendCall d rows t r s p in ((a : SendAnswer) → o .answer ≡ toSend.Answered a → ⊥) → Unchanged d rows t (o .dispatcher) (o .rows) (o .channels)
   pub receive : let o = slotRecvCall d rows t r s in ((a : RecvAnswer) → o .answer ≡ toReceive.Answered a → ⊥) → Unchanged d rows t (o .dispatcher) (o .rows) (o .channels)
   pub park : (task : TaskId) → let o = slotParkCall d rows t r s task in ((a : ParkAnswer) → o .answer ≡ toPark.Answered a → ⊥) → Unchanged d rows t (o .dispatcher) (o .rows) (o .channels)
 
 abbrev pub UnaskedSlot : Type 0
 UnaskedSlot = (d : Dispatcher) (rows : Rows) (t : Channels) (r s : ℕ) → Unasked d rows t r s
+
+-- request No. 10: a row from 54 up has no slots (8), so that 19 is never answered by row and slot
+abbrev pub SlotRowPasses : Type 0
+SlotRowPasses = (d : Dispatcher) (rows : Rows) (t : Channels) (r s : ℕ) (p : Payload) → slotSendCall d rows t r s p .answer ≡ toSend.Answered BadRow → ⊥
 
 -- 27 is for no other: a sound table and a dispatcher that keeps making's rules pass the test
 abbrev pub ReadyPasses : Type 0

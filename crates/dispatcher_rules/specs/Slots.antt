@@ -7,7 +7,7 @@ use Rattle.capslots.specs.Rows.{getOf}
 use Rattle.capslots.specs.declared.Table.{Table as Rows}
 use Rattle.ipc_rules.specs.Send.{sendOf}
 use Rattle.ipc_rules.specs.Receive.{recvOf, parkOf}
-use Rattle.ipc_rules.specs.declared.state.Message.{Message}
+use Rattle.ipc_rules.specs.declared.state.Payload.{Payload}
 use Rattle.ipc_rules.specs.declared.state.TaskId.{TaskId}
 use Rattle.ipc_rules.specs.declared.state.Table.{Table as Channels}
 use Rattle.dispatcher_rules.specs.declared.state.Dispatcher.{Dispatcher}
@@ -35,10 +35,11 @@ abbrev pub slotParked : park.SlotParkAnswer → Dispatcher → Rows → Channels
 slotParked a d rows u = record { answer = a; dispatcher = d; rows = rows; channels = u }
 
 module _ (d : Dispatcher) (rows : Rows) (t : Channels) where
-  unfoldable pub slotSendOf : ℕ → ℕ → Message → SlotSending
-  slotSendOf r s m =
-      slotted (getOf rows r s) (λ p n. slotSent (send.the-variants.OutOfRange p n) d rows t) (λ p. slotSent (send.the-variants.Vacant p) d rows t)
-      (λ c. slotSent (send.the-variants.Answered (sendOf t c m .answer)) d rows (sendOf t c m .table))
+  -- request No. 10: the stamp is the row that the call names
+  unfoldable pub slotSendOf : ℕ → ℕ → Payload → SlotSending
+  slotSendOf r s p =
+      slotted (getOf rows r s) (λ q n. slotSent (send.the-variants.OutOfRange q n) d rows t) (λ q. slotSent (send.the-variants.Vacant q) d rows t)
+      (λ c. slotSent (send.the-variants.Answered (sendOf t c p r .answer)) d rows (sendOf t c p r .table))
 
   unfoldable pub slotRecvOf : ℕ → ℕ → SlotReceiving
   slotRecvOf r s =

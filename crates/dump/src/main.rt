@@ -96,7 +96,7 @@ fn channels(t: Channels) -> bool {
 fn rows(t: Rows) -> bool {
     let mut whole = true;
     let mut r = 0;
-    while r < capslots::ROWS {
+    while r < cap::ROWS {
         whole = whole & row(r, t.rows[r]);
         r += 1;
     }

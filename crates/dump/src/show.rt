@@ -52,6 +52,7 @@ pub(crate) fn place(i: usize, p: usize, m: Message) -> bool {
         & value(m.tag as u64)
         & value(m.a)
         & value(m.b)
+        & value(m.row as u64)
         & end()
 }
 

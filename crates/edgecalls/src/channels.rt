@@ -3,7 +3,7 @@ use edgescript::broken;
 use edgescript::operands::at;
 use edgescript::operands::four;
 use edgescript::operands::id;
-use edgescript::operands::message;
+use edgescript::operands::payload;
 use edgescript::operands::rest;
 use edgescript::operands::size;
 use edgescript::operands::task;
@@ -37,7 +37,7 @@ fn create(t: Table, w: &[u64]) -> Table {
 }
 
 fn send(t: Table, w: &[u64]) -> Table {
-    let x = ipc::send(t, id(w, 0), message(rest(w, 1)));
+    let x = ipc::send(t, id(w, 0), payload(rest(w, 1)), size(w, 4));
     let a = x.answer;
     print::answer(a.shown());
     x.table

@@ -33,7 +33,7 @@ pub const SET_ENDPOINT: u8 = 102;
 // A mailbox: its place; live; head, tail, length; whether one waits, slot, epoch; holds; ephemeral.
 pub const SET_MAILBOX: u8 = 103;
 
-// A message: its place; tag, a, b.
+// A message: its place; tag, a, b, row.
 pub const SET_MESSAGE: u8 = 104;
 
 const MAX_MESSAGES: usize = MAX_MAILBOXES * MAX_DEPTH;

@@ -2,6 +2,7 @@
 use cap::CapId;
 use cap::Slot;
 use ipc_rules::state::Message;
+use ipc_rules::state::Payload;
 use ipc_rules::state::Refusals;
 use ipc_rules::state::TaskId;
 
@@ -51,9 +52,19 @@ pub fn task(w: &[u64]) -> TaskId {
 }
 
 // Tag, a and b.
+pub fn payload(w: &[u64]) -> Payload {
+    Payload {
+        tag: long(w, 0),
+        a: at(w, 1),
+        b: at(w, 2),
+    }
+}
+
+// Those, and the sending row.
 pub fn message(w: &[u64]) -> Message {
     Message {
         tag: long(w, 0),
+        row: byte(w, 3),
         a: at(w, 1),
         b: at(w, 2),
     }

@@ -127,14 +127,14 @@ module _ (w : World) (reached : Reached w) (b : Bool) (n : ℕ) (ids : Channel) 
     same-kind : ephemeralOf (run v later .table) k ≡ b
     same-kind = rw here (since .kind ∙ born-kind)
 
-    all-since : allGiven v n later ++ queueOf (run v later .table) k ≡ allAccepted v n later
+    pub all-since : allGiven v n later ++ queueOf (run v later .table) k ≡ allAccepted v n later
     all-since = rw here (order .1 ∙ ap (λ (q : List Message). q ++ allAccepted v n later) born-empty)
 
 pub kind-stays : KindStays
 kind-stays = same-kind
 
 pub behind-counted : BehindCounted
-behind-counted w reached b n ids m before k q c x a =
+behind-counted w reached b n ids m before k q c p row a =
     let v = step w (create b) in
     let l = a .lives in
     let e = all-since w reached b n ids m before k l in

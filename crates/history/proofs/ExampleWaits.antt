@@ -22,7 +22,7 @@ use Rattle.ipc_rules.specs.Revoke.{killed, wiped, revokeOf}
 use Rattle.ipc_rules.specs.Waiters.{withoutWaiter, clearOf}
 use Rattle.ipc_rules.specs.Opening.{openOf, openAny, opened, openingOf, anyRightOf, holdOf}
 use Rattle.ipc_rules.specs.Views.{heldBy, heldIn}
-use Rattle.ipc_rules.specs.declared.state.Message.{Message}
+use Rattle.ipc_rules.specs.declared.state.Payload.{Payload}
 use Rattle.ipc_rules.specs.declared.state.TaskId.{TaskId}
 use Rattle.ipc_rules.specs.declared.state.Waiter.{Waiter}
 use Rattle.ipc_rules.specs.declared.answers.SendAnswer as send
@@ -61,7 +61,7 @@ task₁ = record { slot = 2; epoch = 0 }
 abbrev task₂ : TaskId
 task₂ = record { slot = 3; epoch = 7 }
 
-abbrev hello : Message
+abbrev hello : Payload
 hello = record { tag = 7; a = 1; b = 2 }
 
 -- ---- the runs
@@ -103,11 +103,13 @@ record Computed : Type 0 where
   pub quiet :
       Quiet (parked true once) 1 0 task₁
       (call.park receiver₁ task₁ ∷ call.park receiver₁ task₂ ∷ call.receive receiver₁ ∷ call.queued receiver₁ ∷ call.clear task₂ ∷ call.register once ∷ releasing (holding sender₁ ∷ []) ∷ [])
-  -- a send that is accepted, and one by the receive id, which is refused
-  pub send-ends : ending (parked true once) (call.send sender₁ hello) ≡ true
-  pub send-names : says (parked true once) (call.send sender₁ hello) ≡ call.sent (send.the-variants.Sent (waiting task₁))
-  pub refused-ends : ending (parked true once) (call.send receiver₁ hello) ≡ false
-  pub refused-names : says (parked true once) (call.send receiver₁ hello) ≡ call.sent send.the-variants.BadCap
+  -- a send that is accepted, one by the receive id and one of a row from 54 up, which are refused
+  pub send-ends : ending (parked true once) (call.send sender₁ hello 5) ≡ true
+  pub send-names : says (parked true once) (call.send sender₁ hello 5) ≡ call.sent (send.the-variants.Sent (waiting task₁))
+  pub refused-ends : ending (parked true once) (call.send receiver₁ hello 5) ≡ false
+  pub refused-names : says (parked true once) (call.send receiver₁ hello 5) ≡ call.sent send.the-variants.BadCap
+  pub no-row-ends : ending (parked true once) (call.send sender₁ hello 54) ≡ false
+  pub no-row-names : says (parked true once) (call.send receiver₁ hello 54) ≡ call.sent send.the-variants.BadRow
   -- a revocation by either id
   pub revocation-ends : ending (parked true once) (call.revoke sender₁) ≡ true
   pub revocation-names : says (parked true once) (call.revoke sender₁) ≡ call.revoked (Revoked (waiting task₁))
@@ -133,8 +135,8 @@ record Computed : Type 0 where
   pub alone-names : says first (releasing (vacantSlot ∷ holding sender₂ ∷ holding sender₁ ∷ [])) ≡ naming (waiting task₁ ∷ [])
   pub alone-turn : turnOf (first .table) 0 [] (vacantSlot ∷ holding sender₂ ∷ holding sender₁ ∷ vacantSlot ∷ []) ≡ 0
   -- an accepted send on the other channel is none on this one
-  pub other-ends : ending both (call.send sender₂ hello) ≡ false
-  pub other-names : says both (call.send sender₂ hello) ≡ call.sent (send.the-variants.Sent (waiting task₂))
+  pub other-ends : ending both (call.send sender₂ hello 5) ≡ false
+  pub other-names : says both (call.send sender₂ hello 5) ≡ call.sent (send.the-variants.Sent (waiting task₂))
 
 computed : Computed
 unfolding answer after step run onCreation ifCreated but createOf sendOf recvOf parkOf registerOf registeredAll registered releaseOf releasedAll released revokeOf killed wiped clearOf withoutWaiter openingOf openOf openAny holdOf anyRightOf opened pick found lowest lowestFree every count slotsOf orVacant readWord nextGeneration raised heldBy heldIn leads ends takesLast waitsEnded turnOf
@@ -146,6 +148,8 @@ computed =
       send-names = refl;
       refused-ends = refl;
       refused-names = refl;
+      no-row-ends = refl;
+      no-row-names = refl;
       revocation-ends = refl;
       revocation-names = refl;
       either-id-ends = refl;

@@ -15,7 +15,7 @@ use Rattle.ipc_rules.specs.Observe.{queuedOf}
 use Rattle.ipc_rules.specs.Opening as openings
 use Rattle.ipc_rules.specs.Counts as raises
 use Rattle.ipc_rules.specs.Revoke as revocations
-use Rattle.ipc_rules.specs.declared.state.Message.{Message}
+use Rattle.ipc_rules.specs.declared.state.Payload.{Payload}
 use Rattle.ipc_rules.specs.declared.answers.CreateAnswer.the-variants.{Created}
 use Rattle.ipc_rules.specs.declared.answers.SendAnswer.the-variants.{Sent, BadCap}
 use Rattle.ipc_rules.specs.declared.answers.QueuedAnswer.the-variants.{Queued}
@@ -29,12 +29,12 @@ unfolding answer createOf places.found places.lowestFree places.lowest picks.pic
 fresh-creates d ephemeral = refl
 
 -- channel 1 is made and written to, both its ids open it; it is revoked, and they open nothing, also when channel 2 stands in its places
-abbrev m : Message
-m = record { tag = 7; a = 1; b = 2 }
+abbrev p : Payload
+p = record { tag = 7; a = 1; b = 2 }
 
 pub told :
     answers (start (sizesOf 1 2 1))
-    (create false ∷ send (idOf 0 1) m ∷ queued (idOf 1 1) ∷ revoke (idOf 0 1) ∷ send (idOf 0 1) m ∷ create false ∷ send (idOf 0 1) m ∷ queued (idOf 0 2) ∷ [])
+    (create false ∷ send (idOf 0 1) p 0 ∷ queued (idOf 1 1) ∷ revoke (idOf 0 1) ∷ send (idOf 0 1) p 0 ∷ create false ∷ send (idOf 0 1) p 0 ∷ queued (idOf 0 2) ∷ [])
     ≡ (created (Created (record { send = idOf 0 1; recv = idOf 1 1 })) ∷ sent (Sent nobody) ∷ measured (Queued 1) ∷ revoked (Revoked nobody) ∷ sent BadCap
     ∷ created (Created (record { send = idOf 0 2; recv = idOf 1 2 })) ∷ sent BadCap ∷ measured (Queued 0) ∷ [])
 unfolding answers step answer after onCreation ifCreated createOf sendOf queuedOf revocations.revokeOf revocations.killed revocations.wiped places.found places.lowestFree places.lowest picks.pick openings.opened openings.openingOf openings.openOf openings.eitherOf openings.openEither openings.anyRightOf openings.openAny generations.nextGeneration raises.raised

@@ -29,9 +29,9 @@ creates = creation (75 ∷ 67 ∷ 1 ∷ 0 ∷ [])
 abbrev parks : List ℕ
 parks = 75 ∷ 67 ∷ 4 ∷ 1 ∷ 0 ∷ 1 ∷ 0 ∷ 2 ∷ 0 ∷ 0 ∷ 0 ∷ []
 
--- message 7, 1, 2 is sent
+-- 7, 1, 2 is sent, by row 3
 abbrev sends : List ℕ
-sends = 75 ∷ 67 ∷ 2 ∷ 0 ∷ 0 ∷ 1 ∷ 0 ∷ 7 ∷ 0 ∷ 0 ∷ 0 ∷ 1 ∷ 0 ∷ 0 ∷ 0 ∷ 0 ∷ 0 ∷ 0 ∷ 0 ∷ 2 ∷ 0 ∷ 0 ∷ 0 ∷ 0 ∷ 0 ∷ 0 ∷ 0 ∷ []
+sends = 75 ∷ 67 ∷ 2 ∷ 0 ∷ 0 ∷ 1 ∷ 0 ∷ 7 ∷ 0 ∷ 0 ∷ 0 ∷ 1 ∷ 0 ∷ 0 ∷ 0 ∷ 0 ∷ 0 ∷ 0 ∷ 0 ∷ 2 ∷ 0 ∷ 0 ∷ 0 ∷ 0 ∷ 0 ∷ 0 ∷ 0 ∷ 3 ∷ []
 
 abbrev receives : Operation
 receives = record { number = 3; bytes = 75 ∷ 67 ∷ 3 ∷ 1 ∷ 0 ∷ 1 ∷ 0 ∷ [] }
@@ -50,7 +50,7 @@ record Computed : Type 0 where
   pub shows-ids : lineIn beginning creates ≡ 1 ∷ 0 ∷ 65536 ∷ 65537 ∷ []
   pub shows-none : lineIn made (parking parks) ≡ 4 ∷ 0 ∷ 0 ∷ []
   pub names-task : lineIn parked (sending sends) ≡ 2 ∷ 0 ∷ 1 ∷ 2 ∷ 0 ∷ []
-  pub shows-message : lineIn sent receives ≡ 3 ∷ 0 ∷ 7 ∷ 1 ∷ 2 ∷ []
+  pub shows-message : lineIn sent receives ≡ 3 ∷ 0 ∷ 7 ∷ 1 ∷ 2 ∷ 3 ∷ []
 
 computed : Computed
 unfolding operated operate applyOf createDone sendDone receiveDone parkDone createOf sendOf recvOf parkOf waiterValues numbers.littleAt places.found places.lowestFree places.lowest picks.pick openings.opened openings.openingOf openings.openOf generations.nextGeneration

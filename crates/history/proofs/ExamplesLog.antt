@@ -17,6 +17,7 @@ use Rattle.ipc_rules.specs.Opening as openings
 use Rattle.ipc_rules.specs.Counts as raises
 use Rattle.ipc_rules.specs.Revoke as revocations
 use Rattle.ipc_rules.specs.declared.state.Message.{Message}
+use Rattle.ipc_rules.specs.declared.state.Payload.{Payload}
 use Rattle.ipc_rules.specs.declared.state.TaskId.{TaskId}
 use Rattle.ipc_rules.specs.declared.answers.CreateAnswer.the-variants.{Created}
 use Rattle.ipc_rules.specs.declared.answers.SendAnswer.the-variants.{Sent}
@@ -33,21 +34,24 @@ use Rattle.history.specs.World.{ifCreated, onCreation, step, answers, st
 use Rattle.history.specs.Operations.{Operation, callsOf, follow, operate, lasting, callsOver, beginning}
 use Rattle.history.specs.Log.{recordsIn, recordsOf}
 
--- document 01's log
+-- document 01's log, with the sending row, 3, as the last byte of its send (request No. 10)
 abbrev bytes : List ℕ
 bytes =
     75 ∷ 67 ∷ 0 ∷ 2 ∷ 4 ∷ 1 ∷
     75 ∷ 67 ∷ 1 ∷ 1 ∷
     75 ∷ 67 ∷ 4 ∷ 1 ∷ 0 ∷ 1 ∷ 0 ∷ 2 ∷ 0 ∷ 0 ∷ 0 ∷
-    75 ∷ 67 ∷ 2 ∷ 0 ∷ 0 ∷ 1 ∷ 0 ∷ 7 ∷ 0 ∷ 0 ∷ 0 ∷ 1 ∷ 0 ∷ 0 ∷ 0 ∷ 0 ∷ 0 ∷ 0 ∷ 0 ∷ 2 ∷ 0 ∷ 0 ∷ 0 ∷ 0 ∷ 0 ∷ 0 ∷ 0 ∷
+    75 ∷ 67 ∷ 2 ∷ 0 ∷ 0 ∷ 1 ∷ 0 ∷ 7 ∷ 0 ∷ 0 ∷ 0 ∷ 1 ∷ 0 ∷ 0 ∷ 0 ∷ 0 ∷ 0 ∷ 0 ∷ 0 ∷ 2 ∷ 0 ∷ 0 ∷ 0 ∷ 0 ∷ 0 ∷ 0 ∷ 0 ∷ 3 ∷
     75 ∷ 67 ∷ 4 ∷ 1 ∷ 0 ∷ 1 ∷ 0 ∷ 2 ∷ 0 ∷ 0 ∷ 0 ∷
     75 ∷ 67 ∷ 6 ∷ 1 ∷ 0 ∷ 1 ∷ 0 ∷
     75 ∷ 67 ∷ 3 ∷ 1 ∷ 0 ∷ 1 ∷ 0 ∷
     75 ∷ 67 ∷ 27 ∷
     []
 
+abbrev p : Payload
+p = record { tag = 7; a = 1; b = 2 }
+
 abbrev m : Message
-m = record { tag = 7; a = 1; b = 2 }
+m = record { tag = 7; row = 3; a = 1; b = 2 }
 
 abbrev task : TaskId
 task = record { slot = 2; epoch = 0 }
@@ -72,7 +76,7 @@ unfolding lasting recordsIn steps.reading operands.operandsOk reads.readOf reads
 sample-lasts = refl
 
 abbrev calls : List Call
-calls = create true ∷ park (idOf 1 1) task ∷ send (idOf 0 1) m ∷ park (idOf 1 1) task ∷ revoke (idOf 1 1) ∷ receive (idOf 1 1) ∷ counts ∷ []
+calls = create true ∷ park (idOf 1 1) task ∷ send (idOf 0 1) p 3 ∷ park (idOf 1 1) task ∷ revoke (idOf 1 1) ∷ receive (idOf 1 1) ∷ counts ∷ []
 
 pub sample-calls : callsOver (operate beginning anew) rest ≡ calls
 unfolding callsOver operate callsOf recordsIn steps.reading operands.operandsOk reads.readOf reads.lengths reads.lengthOf numbers.littleAt picks.pick

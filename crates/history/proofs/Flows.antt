@@ -9,10 +9,12 @@ use Rattle.laws.specs.Pick.{pick}
 use Rattle.cap.specs.Rights.{sendRight, receiveRight}
 use Rattle.cap.specs.declared.CapId.{CapId}
 use Rattle.cap.specs.declared.CapRights.{CapRights}
+use Rattle.ipc_rules.specs.State.{stamped}
 use Rattle.ipc_rules.specs.Opening.{openingOf}
 use Rattle.ipc_rules.specs.Receive.{recvOf, parkOf}
 use Rattle.ipc_rules.specs.Views.{queueOf}
 use Rattle.ipc_rules.specs.declared.state.Message.{Message}
+use Rattle.ipc_rules.specs.declared.state.Payload.{Payload}
 use Rattle.ipc_rules.specs.declared.state.TaskId.{TaskId}
 use Rattle.ipc_rules.specs.declared.state.Table.{Table}
 use Rattle.ipc_rules.specs.declared.answers.Receiving.{Receiving}
@@ -40,10 +42,10 @@ module _ (w : World) (τ : Tidy w) (n k : ℕ) (h : LivesIn w n k) where
       let a = leads-to w n (openingOf t c need) e in
       a .opens ∙ ap Opens (τ .single (a .box) k (opens-live t c need (a .box) (τ .sound) (a .opens)) (h .live) (a .tenant ∙ sym (h .tenant)))
 
-  goes-in-here : (c : CapId) (m : Message) → length (queueOf t k) < t .sizes .depth → on w n c sendRight ≡ true → accepted w n (send c m) ≡ m ∷ []
+  goes-in-here : (c : CapId) (p : Payload) (row : ℕ) → row < 54 → length (queueOf t k) < t .sizes .depth → on w n c sendRight ≡ true → accepted w n (send c p row) ≡ stamped p row ∷ []
   unfolding accepted pick ifSent
-  goes-in-here c m room e =
-      let x = after-send.send-accepts t c m (τ .sound) (record { box = k; opens = opens-here c sendRight e; below = room }) in
+  goes-in-here c p row sender room e =
+      let x = after-send.send-accepts t c p row (τ .sound) sender (record { box = k; opens = opens-here c sendRight e; below = room }) in
       rw (e, x .answer)
 
   -- the message that stands first is the one that is taken
@@ -81,7 +83,7 @@ module _ (w : World) (τ : Tidy w) (n k : ℕ) (h : LivesIn w n k) where
     comes-out-here = (rw e (received (after-recv.recv-ways t c (τ .sound))), λ task. rw e (parked task (after-park.park-ways t c task (τ .sound))))
 
 pub goes-in : GoesIn
-goes-in w r n k h room c m e = record { lives = h; accepts = goes-in-here w (reached-tidy r) n k h c m room e; others = refl }
+goes-in w r n k h room c p row sender e = record { lives = h; accepts = goes-in-here w (reached-tidy r) n k h c p row sender room e; others = refl }
 
 pub comes-out : ComesOut
 comes-out w r n k h m rest q c e = comes-out-here w (reached-tidy r) n k h m rest q c e
@@ -89,11 +91,13 @@ comes-out w r n k h m rest q c e = comes-out-here w (reached-tidy r) n k h m res
 -- ---- by answer
 pub each-sent : EachSent
 unfolding accepted pick ifSent
-each-sent w r c m x e =
+each-sent w r c p row x e =
     let σ = reached-tidy r .sound in
-    let a = after-send.sent-room (w .table) c m σ x e in
+    let y = after-send.sent-room (w .table) c p row σ x e in
+    let a = y .1 in
     let k = a .box in
     record {
+      sender = y .0;
       number = w .tenant k;
       box = k;
       ahead = length (queueOf (w .table) k);

@@ -41,7 +41,7 @@ few-parked park.the-variants.BadTable = omega arith
 pub one-or-none : OneOrNone
 unfolding given
 one-or-none w n (create b) = omega arith
-one-or-none w n (send c m) = omega arith
+one-or-none w n (send c p row) = omega arith
 one-or-none w n (receive c) = all-pick Few (on w n c receiveRight) _ _ (λ _. few-received _) (λ _. omega arith)
 one-or-none w n (park c task) = all-pick Few (on w n c receiveRight) _ _ (λ _. few-parked _) (λ _. omega arith)
 one-or-none w n (queued c) = omega arith
@@ -65,7 +65,7 @@ nothing e = let l : _≡_ {A = ℕ} 0 1 = ap length e in absurd (omega arith)
 pub only-gives : (w : World) (n : ℕ) (x : Message) (c : Call) → given w n c ≡ x ∷ [] → OnlyGives w n c
 unfolding given accepted revokes
 only-gives w n x (create b) g = nothing g
-only-gives w n x (send c m) g = nothing g
+only-gives w n x (send c p row) g = nothing g
 only-gives w n x (receive c) g = record { accepts-none = refl; spares = refl }
 only-gives w n x (park c task) g = record { accepts-none = refl; spares = refl }
 only-gives w n x (queued c) g = nothing g

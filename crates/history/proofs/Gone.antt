@@ -33,7 +33,7 @@ module _ (w : World) (n : ℕ) (τ : Tidy w) (gone : Gone w n) where
   none-accepted : (c : Call) → accepted w n c ≡ []
   unfolding accepted pick
   none-accepted (create b) = refl
-  none-accepted (send c m) = rw (not-on c sendRight)
+  none-accepted (send c p row) = rw (not-on c sendRight)
   none-accepted (receive c) = refl
   none-accepted (park c task) = refl
   none-accepted (queued c) = refl
@@ -49,7 +49,7 @@ module _ (w : World) (n : ℕ) (τ : Tidy w) (gone : Gone w n) where
   none-given : (c : Call) → given w n c ≡ []
   unfolding given pick
   none-given (create b) = refl
-  none-given (send c m) = refl
+  none-given (send c p row) = refl
   none-given (receive c) = rw (not-on c receiveRight)
   none-given (park c task) = rw (not-on c receiveRight)
   none-given (queued c) = refl
@@ -92,7 +92,7 @@ module _ (w : World) (n : ℕ) (τ : Tidy w) where
   pub revoked-gone : (c : Call) → revokes w n c ≡ true → Ends (step w c)
   unfolding revokes
   revoked-gone (create b) e = no-revocation e
-  revoked-gone (send c m) e = no-revocation e
+  revoked-gone (send c p row) e = no-revocation e
   revoked-gone (receive c) e = no-revocation e
   revoked-gone (park c task) e = no-revocation e
   revoked-gone (queued c) e = no-revocation e

@@ -11,11 +11,10 @@ use Rattle.cap.specs.declared.CapId.{CapId}
 use Rattle.ipc_rules.specs.State.{nobody}
 use Rattle.ipc_rules.specs.Sound.{Sound}
 use Rattle.ipc_rules.specs.declared.state.Channel.{Channel}
-use Rattle.ipc_rules.specs.declared.state.Message.{Message}
 use Rattle.history.specs.Calls.{create, Answer, sent, received, parked, registered, answer, after}
 use Rattle.history.specs.World.{World, onCreation, step, answers, Reached}
 use Rattle.history.specs.Ids.{Makes}
-use Rattle.history.specs.Idle.{FreshCreates, exchange, exchanged, MessagesCome, Wait, waits, waited, WaitersNamed, HeldWaitersNamed}
+use Rattle.history.specs.Idle.{FreshCreates, Sentence, exchange, exchanged, MessagesCome, Wait, waits, waited, WaitersNamed, HeldWaitersNamed}
 use Rattle.history.proofs.Kept.{reached-sound, step-sound}
 use Rattle.history.proofs.Ids.{issued, Placed, placed}
 use Rattle.history.proofs.ExamplesIds.{fresh-creates}
@@ -33,14 +32,14 @@ fresh-creates-two d b =
 next : {a a′ : Answer} {x y : List Answer} → a ≡ a′ → x ≡ y → a ∷ x ≡ a′ ∷ y
 next p q = rw (p, q)
 
-exchange-stands : (v : World) (k : ℕ) (ids : Channel) (b : Bool) (n : ℕ) (ms : List Message) →
-    Stands (v .table) k ids b n [] nobody → answers v (exchange ids ms) ≡ exchanged ms
+exchange-stands : (v : World) (k : ℕ) (ids : Channel) (b : Bool) (n : ℕ) (xs : List Sentence) →
+    Stands (v .table) k ids b n [] nobody → answers v (exchange ids xs) ≡ exchanged xs
 unfolding exchange exchanged answers answer step after onCreation
 exchange-stands v k ids b n [] s = refl
-exchange-stands v k ids b n (m ∷ ms) s =
-    let p = send-stands m s in
+exchange-stands v k ids b n (x ∷ xs) s =
+    let p = send-stands (x .parts) (x .row) (x .sender) s in
     let q = recv-stands (p .1) in
-    next (ap sent (p .0)) (next (ap received (q .0)) (exchange-stands _ k ids b n ms (q .1)))
+    next (ap sent (p .0)) (next (ap received (q .0)) (exchange-stands _ k ids b n xs (q .1)))
 
 waits-stands : (v : World) (k : ℕ) (ids : Channel) (b : Bool) (n : ℕ) (xs : List Wait) → (b ≡ true → 0 < n) →
     Stands (v .table) k ids b n [] nobody → answers v (waits ids xs) ≡ waited xs
@@ -48,7 +47,7 @@ unfolding waits waited answers answer step after onCreation
 waits-stands v k ids b n [] held s = refl
 waits-stands v k ids b n (x ∷ xs) held s =
     let p = park-stands (x .task) held s in
-    let q = send-stands (x .message) (p .1) in
+    let q = send-stands (x .sentence .parts) (x .sentence .row) (x .sentence .sender) (p .1) in
     let r = given-stands (x .task) (q .1) in
     next (ap parked (p .0)) (next (ap sent (q .0)) (next (ap parked (r .0)) (waits-stands _ k ids b n xs held (r .1))))
 
@@ -78,7 +77,7 @@ begins w reached b n ids m = let σ = reached-sound reached in placed-begins w b
 
 -- ---- what it does
 pub messages-come : MessagesCome
-messages-come w reached b n ids m ms = let β = begins w reached b n ids m in exchange-stands _ (β .box) ids b 0 ms (β .stands)
+messages-come w reached b n ids m xs = let β = begins w reached b n ids m in exchange-stands _ (β .box) ids b 0 xs (β .stands)
 
 pub waiters-named : WaitersNamed
 waiters-named w reached n ids m xs =

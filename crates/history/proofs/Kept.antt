@@ -43,7 +43,7 @@ step-table w c = answered-table w (after (w .table) c) (answer (w .table) c)
 pub after-sound : (t : Table) (c : Call) → Sound t → Sound (after t c)
 unfolding after registerOf releaseOf
 after-sound t (create ephemeral) s = create-kept t ephemeral s
-after-sound t (send c m) s = send-kept t c m s
+after-sound t (send c p row) s = send-kept t c p row s
 after-sound t (receive c) s = recv-kept t c s
 after-sound t (park c task) s = park-kept t c task s
 after-sound t (queued c) s = s

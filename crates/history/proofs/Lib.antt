@@ -34,6 +34,7 @@ pub mod Givings
 pub mod Messages
 pub mod Gone
 pub mod Created
+pub mod Stamps
 pub mod Flows
 pub mod ExampleMessages
 pub mod Edges

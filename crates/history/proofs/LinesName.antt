@@ -36,7 +36,7 @@ use Rattle.operations.specs.Channels.{sendDone, revokeDone, clearDone}
 use Rattle.operations.specs.Done.{Done}
 use Rattle.operations.specs.Holds.{releaseDone}
 use Rattle.operations.specs.Joined.{spawnDone, leaveDone}
-use Rattle.operations.specs.Operands.{idAt, taskAt, messageAt}
+use Rattle.operations.specs.Operands.{idAt, taskAt, payloadAt}
 use Rattle.operations.specs.declared.Tables.{Tables}
 use Rattle.history.specs.Calls.{Call, send, revoke, register, releasing, clear, answer, after}
 use Rattle.history.specs.Numbers.{numberOf, valuesOf}
@@ -147,11 +147,11 @@ module _ (log : List ℕ) (t : Tables) where
       (pair c (register words) (f .call) (f .before) (f .behind) (f .split))
 
   -- ---- the six that do
-  sends : NamerAt 2 (sendDone log t) (send (idAt log 3) (messageAt log 7) ∷ [])
+  sends : NamerAt 2 (sendDone log t) (send (idAt log 3) (payloadAt log 7) (byteAt log 27) ∷ [])
   unfolding sendDone answer waiterValues pick
   sends = one _ _ (λ w n k x _. by k x)
     where
-      by : (k : ℕ) (x : TaskId) → Told (t .channels) k x (send (idAt log 3) (messageAt log 7)) → Says (2 ∷ sendDone log t .number ∷ sendDone log t .values) k x
+      by : (k : ℕ) (x : TaskId) → Told (t .channels) k x (send (idAt log 3) (payloadAt log 7) (byteAt log 27)) → Says (2 ∷ sendDone log t .number ∷ sendDone log t .values) k x
       by k x (inl (by-send e)) = inl (send-line (ap (λ a. 2 ∷ numberOf a ∷ valuesOf a) e))
 
   revokes : NamerAt 6 (revokeDone log t) (revoke (idAt log 3) ∷ [])

@@ -145,22 +145,24 @@ gives s e o =
 
 -- ---- and back
 -- the message of a line is the answer's
-receive-shows : (a : recv.RecvAnswer) (m : Message) → recvNumber a ∷ recvValues a ≡ 0 ∷ m .tag ∷ m .a ∷ m .b ∷ [] → a ≡ recv.the-variants.Received m
+receive-shows : (a : recv.RecvAnswer) (m : Message) → recvNumber a ∷ recvValues a ≡ 0 ∷ m .tag ∷ m .a ∷ m .b ∷ m .row ∷ [] → a ≡ recv.the-variants.Received m
 receive-shows (recv.the-variants.Received x) m e =
     let p : x .tag ≡ m .tag = cc in
     let q : x .a ≡ m .a = cc in
     let r : x .b ≡ m .b = cc in
-    λ i. recv.the-variants.Received (record { tag = p i; a = q i; b = r i })
+    let s : x .row ≡ m .row = cc in
+    λ i. recv.the-variants.Received (record { tag = p i; row = s i; a = q i; b = r i })
 receive-shows recv.the-variants.BadCap m e = let z : _≡_ {A = ℕ} 0 1 = cc in absurd (omega arith)
 receive-shows recv.the-variants.Empty m e = let z : _≡_ {A = ℕ} 0 1 = cc in absurd (omega arith)
 receive-shows recv.the-variants.BadTable m e = let z : _≡_ {A = ℕ} 0 1 = cc in absurd (omega arith)
 
-park-shows : (a : park.ParkAnswer) (m : Message) → parkNumber a ∷ parkValues a ≡ 0 ∷ 1 ∷ m .tag ∷ m .a ∷ m .b ∷ [] → a ≡ park.the-variants.Given m
+park-shows : (a : park.ParkAnswer) (m : Message) → parkNumber a ∷ parkValues a ≡ 0 ∷ 1 ∷ m .tag ∷ m .a ∷ m .b ∷ m .row ∷ [] → a ≡ park.the-variants.Given m
 park-shows (park.the-variants.Given x) m e =
     let p : x .tag ≡ m .tag = cc in
     let q : x .a ≡ m .a = cc in
     let r : x .b ≡ m .b = cc in
-    λ i. park.the-variants.Given (record { tag = p i; a = q i; b = r i })
+    let s : x .row ≡ m .row = cc in
+    λ i. park.the-variants.Given (record { tag = p i; row = s i; a = q i; b = r i })
 park-shows park.the-variants.Parked m e = let z : _≡_ {A = ℕ} 0 1 = cc in absurd (omega arith)
 park-shows park.the-variants.BadCap m e = let z : _≡_ {A = ℕ} 0 1 = cc in absurd (omega arith)
 park-shows park.the-variants.Busy m e = let z : _≡_ {A = ℕ} 0 1 = cc in absurd (omega arith)
@@ -171,13 +173,13 @@ module _ (s : Logged) (f : Follows s) (bytes : List ℕ) (m : Message) where
   abbrev op : ℕ → Operation
   op number = record { number = number; bytes = bytes }
 
-  receive-gives : lineIn s (op 3) ≡ 3 ∷ 0 ∷ m .tag ∷ m .a ∷ m .b ∷ [] → SomeShows s (op 3) m
+  receive-gives : lineIn s (op 3) ≡ 3 ∷ 0 ∷ m .tag ∷ m .a ∷ m .b ∷ m .row ∷ [] → SomeShows s (op 3) m
   unfolding applyOf receiveDone callsOf allGiven
   receive-gives e =
       let g = each-received (s .world) (f .reached) (idAt bytes 3) m (rw (f .channels) (receive-shows _ m (same-rest e))) in
       record { number = g .number; is = append-nil _ ∙ g .is }
 
-  park-gives : lineIn s (op 4) ≡ 4 ∷ 0 ∷ 1 ∷ m .tag ∷ m .a ∷ m .b ∷ [] → SomeShows s (op 4) m
+  park-gives : lineIn s (op 4) ≡ 4 ∷ 0 ∷ 1 ∷ m .tag ∷ m .a ∷ m .b ∷ m .row ∷ [] → SomeShows s (op 4) m
   unfolding applyOf parkDone callsOf allGiven
   park-gives e =
       let g = each-given (s .world) (f .reached) (idAt bytes 3) (taskAt bytes 7) m (rw (f .channels) (park-shows _ m (same-rest e))) in
@@ -185,9 +187,9 @@ module _ (s : Logged) (f : Follows s) (bytes : List ℕ) (m : Message) where
 
   shown-gives : (number : ℕ) → ShowsMessage m (lineIn s (op number)) → SomeShows s (op number) m
   shown-gives number (receive-line e) =
-      subst (λ i. lineIn s (op i) ≡ 3 ∷ 0 ∷ m .tag ∷ m .a ∷ m .b ∷ [] → SomeShows s (op i) m) (sym (same-head e)) receive-gives e
+      subst (λ i. lineIn s (op i) ≡ 3 ∷ 0 ∷ m .tag ∷ m .a ∷ m .b ∷ m .row ∷ [] → SomeShows s (op i) m) (sym (same-head e)) receive-gives e
   shown-gives number (park-line e) =
-      subst (λ i. lineIn s (op i) ≡ 4 ∷ 0 ∷ 1 ∷ m .tag ∷ m .a ∷ m .b ∷ [] → SomeShows s (op i) m) (sym (same-head e)) park-gives e
+      subst (λ i. lineIn s (op i) ≡ 4 ∷ 0 ∷ 1 ∷ m .tag ∷ m .a ∷ m .b ∷ m .row ∷ [] → SomeShows s (op i) m) (sym (same-head e)) park-gives e
 
 pub gives-shown : GivesShown
 gives-shown s f o m = record { gives = λ n g. gives s (f .channels) o n m g .shows; shows = shown-gives s f (o .bytes) m (o .number) }

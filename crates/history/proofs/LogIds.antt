@@ -15,7 +15,7 @@ use Rattle.ipc_rules.specs.declared.answers.CreateAnswer.the-variants.{Created,
 use Rattle.logread.specs.Little.{byteAt}
 use Rattle.operations.specs.Apply.{applyOf}
 use Rattle.operations.specs.Channels.{createDone, sendDone, receiveDone, parkDone, queuedDone, revokeDone, holdersDone}
-use Rattle.operations.specs.Operands.{idAt, taskAt, messageAt}
+use Rattle.operations.specs.Operands.{idAt, taskAt, payloadAt}
 use Rattle.operations.specs.declared.Tables.{Tables}
 use Rattle.history.specs.Calls.{Call, create, send, receive, park, queued, revoke, holders, Answer, created, answer}
 use Rattle.history.specs.Numbers.{numberOf, valuesOf}
@@ -26,6 +26,7 @@ use Rattle.history.specs.Ids.{Makes, IdOf, OpensOnly}
 use Rattle.history.specs.Operations.{Operation, doneBy, callsOf, Logged, operate, operated, beginning, Follows, lasting, callsOver}
 use Rattle.history.specs.Lines.{lineIn}
 use Rattle.history.specs.LogIds.{creation, LineReaches, nothing, channel, LinesReach, KeepsId, LogIdsKeep}
+use Rattle.history.proofs.Refusals.{rows-refused}
 use Rattle.history.proofs.Ids.{ids-keep}
 use Rattle.history.proofs.Operations.{goes-on, other-number, operations-follow, operated-follow, operations-run, logs-follow}
 use Rattle.history.proofs.Lines.{same-rest}
@@ -71,7 +72,8 @@ module _ (s : Logged) (f : Follows s) (n : ℕ) (c : CapId) (r : Reach (s .world
   unfolding applyOf sendDone receiveDone parkDone queuedDone revokeDone holdersDone answer
   lines-reach =
       record {
-        send = λ log e. by-reach _ (send (idAt log 3) (messageAt log 7)) _ refl (rw e (r .send (messageAt log 7)));
+        send = λ log e l. by-reach _ (send (idAt log 3) (payloadAt log 7) (byteAt log 27)) _ refl (rw e (r .send (payloadAt log 7) (byteAt log 27) l));
+        send-refused = λ log h. ap (λ (a : Answer). 2 ∷ numberOf a ∷ valuesOf a) (rows-refused (s .tables .channels) (idAt log 3) (payloadAt log 7) (byteAt log 27) .0 h .answers);
         receive = λ log e. by-reach _ (receive (idAt log 3)) _ refl (rw e (r .receive));
         park = λ log e. by-reach _ (park (idAt log 3) (taskAt log 7)) _ refl (rw e (r .park (taskAt log 7)));
         queued = λ log e. by-reach _ (queued (idAt log 3)) _ refl (rw e (r .queued));

@@ -7,9 +7,10 @@ use native.Mathlib.Omega.{arith}
 use lib.ListN.{getD, length, take, drop, length-append, List·getD-append}
 use lib.Seq.{getD-append-seam, getD-append-add, take-append-seam, drop-append-seam}
 use Rattle.cap.specs.declared.CapId.{CapId}
-use Rattle.ipc_rules.specs.State.{freshMessage}
+use Rattle.ipc_rules.specs.State.{freshMessage, stamped}
 use Rattle.ipc_rules.specs.Views.{queueOf}
 use Rattle.ipc_rules.specs.declared.state.Message.{Message}
+use Rattle.ipc_rules.specs.declared.state.Payload.{Payload}
 use Rattle.history.specs.Calls.{Call, send}
 use Rattle.history.specs.World.{World, step, run, Reached}
 use Rattle.history.specs.Channels.{LivesIn}
@@ -53,24 +54,27 @@ pub record OnceOver (w v : World) (n k : ℕ) (m : Message) (before : List Call)
   pub later : (rest : List Call) → Spares (run u ds) n rest →
       allGiven (run u ds) n rest ++ queueOf (run (run u ds) rest .table) k ≡ allAccepted v n before ++ allAccepted (run u ds) n rest
 
-module _ (w : World) (r : Reached w) (n k q : ℕ) (c : CapId) (m : Message) (a : AcceptedBehind w n k q c m) where
+module _ (w : World) (r : Reached w) (n k q : ℕ) (c : CapId) (p : Payload) (row : ℕ) (a : AcceptedBehind w n k q c p row) where
+  abbrev m : Message
+  m = stamped p row
+
   abbrev v : World
-  v = step w (send c m)
+  v = step w (send c p row)
 
   abbrev waited : List Message
   waited = queueOf (w .table) k
 
   v-tidy : Tidy v
-  v-tidy = step-grows w (send c m) (reached-tidy r) .tidy
+  v-tidy = step-grows w (send c p row) (reached-tidy r) .tidy
 
   v-lives : LivesIn v n k
   unfolding revokes
-  v-lives = turn w (reached-tidy r) n k (a .lives) (send c m) refl .lives
+  v-lives = turn w (reached-tidy r) n k (a .lives) (send c p row) refl .lives
 
   -- m stands behind the others
   queued-behind : queueOf (v .table) k ≡ waited ++ (m ∷ [])
   unfolding given revokes
-  queued-behind = turn w (reached-tidy r) n k (a .lives) (send c m) refl .order ∙ ap (λ (l : List Message). waited ++ l) (a .accepts)
+  queued-behind = turn w (reached-tidy r) n k (a .lives) (send c p row) refl .order ∙ ap (λ (l : List Message). waited ++ l) (a .accepts)
 
   -- and then what is accepted later
   all-in-order : (later : List Call) → Spares v n later → allGiven v n later ++ queueOf (run v later .table) k ≡ waited ++ (m ∷ allAccepted v n later)
@@ -113,13 +117,13 @@ module _ (w : World) (r : Reached w) (n k q : ℕ) (c : CapId) (m : Message) (a 
   once-over before s e ds free takes x g =
       let u = run v before in
       let τ = run-grows v before v-tidy .tidy in
-      let p = cut (allGiven v n before) (queueOf (u .table) k) waited (m ∷ allAccepted v n before) (all-in-order before s) (e ∙ sym (a .others)) in
+      let f = cut (allGiven v n before) (queueOf (u .table) k) waited (m ∷ allAccepted v n before) (all-in-order before s) (e ∙ sym (a .others)) in
       let o = in-order u τ n k (in-order v v-tidy n k v-lives s .0) free in
       let z : x ∷ queueOf (run u ds .table) k ≡ m ∷ allAccepted v n before =
-      ap (λ (l : List Message). l ++ queueOf (run u ds .table) k) (sym g) ∙ o .1 ∙ ap (λ (l : List Message). queueOf (u .table) k ++ l) takes ∙ append-nil _ ∙ p .1 in
+      ap (λ (l : List Message). l ++ queueOf (run u ds .table) k) (sym g) ∙ o .1 ∙ ap (λ (l : List Message). queueOf (u .table) k ++ l) takes ∙ append-nil _ ∙ f .1 in
       let y = cut (x ∷ []) (queueOf (run u ds .table) k) (m ∷ []) (allAccepted v n before) z refl in
       record {
-        earlier = p .0;
+        earlier = f .0;
         now = cc;
         later = λ rest spared. in-order (run u ds) (run-grows u ds τ .tidy) n k (o .0) spared .1 ∙ ap (λ (l : List Message). l ++ allAccepted (run u ds) n rest) (y .1);
       }

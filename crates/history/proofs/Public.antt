@@ -33,7 +33,7 @@ served t refused rule s = rw (test-of t s)
 answers : (t : Table) (call : Call) → Sound t → publicAnswer t call ≡ answer t call
 unfolding publicAnswer answer
 answers t (create ephemeral) s = rw (served t _ _ s)
-answers t (send c m) s = rw (served t _ _ s)
+answers t (send c p row) s = rw (served t _ _ s)
 answers t (receive c) s = rw (served t _ _ s)
 answers t (park c task) s = rw (served t _ _ s)
 answers t (queued c) s = rw (served t _ _ s)
@@ -49,7 +49,7 @@ answers t counts s = rw (served t _ _ s)
 tables : (t : Table) (call : Call) → Sound t → publicAfter t call ≡ after t call
 unfolding publicAfter after
 tables t (create ephemeral) s = ap (λ (r : Creation). r .table) (served t _ (createOf t ephemeral) s)
-tables t (send c m) s = ap (λ (r : Sending). r .table) (served t _ (sendOf t c m) s)
+tables t (send c p row) s = ap (λ (r : Sending). r .table) (served t _ (sendOf t c p row) s)
 tables t (receive c) s = ap (λ (r : Receiving). r .table) (served t _ (recvOf t c) s)
 tables t (park c task) s = ap (λ (r : Parking). r .table) (served t _ (parkOf t c task) s)
 tables t (queued c) s = refl

@@ -1,7 +1,7 @@
 -- Where an id opens one channel or nothing, each call with it is answered by that channel's mailbox or refused. Assumes nothing.
 use mathlib.Core.Path.{_≡_, refl, sym, ap, subst, _∙_}
 use mathlib.Core.Bool.{Bool, true, false, _&&_}
-use Prim.Native.Nat.{ℕ, zero, suc}
+use Prim.Native.Nat.{ℕ, zero, suc, _<_}
 use native.Mathlib.Omega.{arith}
 use borrow.Author.Tests.{eq-eqb, ne-eqb, lt-ltb}
 use lib.Dec.{eqb, ltb}
@@ -20,7 +20,7 @@ use Rattle.ipc_rules.specs.Receive.{recvOf, parkOf, otherWaits, oldest, takenFr
 use Rattle.ipc_rules.specs.Revoke.{revokeOf}
 use Rattle.ring.specs.Ring.{ringFrom}
 use Rattle.ipc_rules.specs.Views.{queueOf, waiterOf, holdCount, ephemeralOf, Alike, OnlyCounts}
-use Rattle.ipc_rules.specs.declared.state.Message.{Message}
+use Rattle.ipc_rules.specs.declared.state.Payload.{Payload}
 use Rattle.ipc_rules.specs.declared.state.TaskId.{TaskId}
 use Rattle.ipc_rules.specs.declared.state.Table.{Table}
 use Rattle.ipc_rules.specs.declared.answers.Sending.{Sending}
@@ -41,6 +41,7 @@ use Rattle.history.specs.Calls.{send, receive, park, queued, revoke, hol
 use Rattle.history.specs.World.{World}
 use Rattle.history.specs.Reach.{Reaches, nothing, channel, Reach, oldestOf, parkBy, sendAt, receiveAt, parkAt, queuedAt, revokeAt, holdersAt}
 use Rattle.history.specs.Ids.{OpensOnly}
+use Rattle.history.proofs.Refusals.{rows-refused}
 use Rattle.history.proofs.ReachLists.{touch-register, touch-release, alike-register, alike-release}
 
 -- an opening opens one mailbox
@@ -87,18 +88,19 @@ module _ (w : World) (n : ℕ) (c : CapId) (σ : Sound (w .table)) (only : Opens
   abbrev t : Table
   t = w .table
 
-  reach-send : (m : Message) → Reaches w n (send c m) (sendAt t)
+  reach-send : (p : Payload) (row : ℕ) → row < 54 → Reaches w n (send c p row) (sendAt t)
   unfolding answer after
-  reach-send m = by (sends.send-ways t c m σ)
+  reach-send p row sender = by (sends.send-ways t c p row σ)
     where
-      others : (k : ℕ) → openingOf t c sendRight ≡ Opens k → (j : ℕ) → (j ≡ k → ⊥) → Alike t (sendOf t c m .table) j
-      others k o j ne = sends.send-others t c m σ j (λ e. ne (one-opens e o))
+      others : (k : ℕ) → openingOf t c sendRight ≡ Opens k → (j : ℕ) → (j ≡ k → ⊥) → Alike t (sendOf t c p row .table) j
+      others k o j ne = sends.send-others t c p row σ j (λ e. ne (one-opens e o))
 
-      by : sends.SendWays t c m (sendOf t c m) → Reaches w n (send c m) (sendAt t)
-      by (sends.bad-cap _ q) =
+      by : sends.SendWays t c p row (sendOf t c p row) → Reaches w n (send c p row) (sendAt t)
+      by (sends.bad-row h _) = absurd (omega arith)
+      by (sends.bad-cap _ _ q) =
           nothing (ap (λ (r : Sending). sendNumber (r .answer)) q) (ap (λ (r : Sending). sendValues (r .answer)) q) (subst (λ (r : Sending). OnlyCounts t (r .table)) (sym q) (authority-only t))
-      by (sends.full k o f q) = channel k (only .by sendRight k o) (ap sent (yes _ (eq-eqb _ _ f) (ap (λ (r : Sending). r .answer) q))) (others k o)
-      by (sends.sent a x) =
+      by (sends.full _ k o f q) = channel k (only .by sendRight k o) (ap sent (yes _ (eq-eqb _ _ f) (ap (λ (r : Sending). r .answer) q))) (others k o)
+      by (sends.sent _ a x) =
           let room : length (queueOf t (a .box)) ≡ t .sizes .depth → ⊥ = λ e. let l = a .below in omega arith in
           channel (a .box) (only .by sendRight (a .box) (a .opens)) (ap sent (no _ (ne-eqb _ _ room) (x .answer))) (others (a .box) (a .opens))
 
@@ -156,6 +158,7 @@ module _ (w : World) (n : ℕ) (c : CapId) (σ : Sound (w .table)) (only : Opens
   reaches =
       record {
         send = reach-send;
+        send-refused = λ p row h. rows-refused t c p row .0 h;
         receive = reach-receive;
         park = reach-park;
         queued = reach-queued;

@@ -2,9 +2,12 @@
 use mathlib.Core.Path.{_≡_, refl, sym, ap, subst, _∙_}
 use mathlib.Core.Bool.{Bool, true}
 use mathlib.Core.List.{List}
-use Prim.Native.Nat.{ℕ}
+use mathlib.Core.Logic.{⊎-elim}
+use Prim.Native.Nat.{ℕ, _≤_}
+use borrow.Author.Tests.{le-leb}
 use Rattle.laws.specs.Pick.{pick}
 use Rattle.laws.specs.Refusals as no
+use Rattle.laws.proofs.Bools.{below?}
 use Rattle.cap.specs.Rights.{sendRight}
 use Rattle.cap.specs.declared.CapId.{CapId}
 use Rattle.ipc_rules.specs.State.{withRefusals}
@@ -19,11 +22,12 @@ use Rattle.ipc_rules.specs.Holds.{registerOf, releaseOf}
 use Rattle.ipc_rules.specs.Revoke.{revokeOf}
 use Rattle.ipc_rules.specs.Views.{countsBy}
 use Rattle.ipc_rules.specs.Waiters.{clearOf}
-use Rattle.ipc_rules.specs.declared.state.Message.{Message}
+use Rattle.ipc_rules.specs.declared.state.Payload.{Payload}
 use Rattle.ipc_rules.specs.declared.state.TaskId.{TaskId}
 use Rattle.ipc_rules.specs.declared.state.Table.{Table}
 use Rattle.ipc_rules.specs.declared.answers.Creation.{Creation}
 use Rattle.ipc_rules.specs.declared.answers.Sending.{Sending}
+use Rattle.ipc_rules.specs.declared.answers.SendAnswer.the-variants.{BadRow}
 use Rattle.ipc_rules.specs.declared.answers.Receiving.{Receiving}
 use Rattle.ipc_rules.specs.declared.answers.Parking.{Parking}
 use Rattle.ipc_rules.specs.declared.answers.Registering.{Registering}
@@ -40,10 +44,10 @@ use Rattle.ipc_rules.proofs.AfterReleaseAll.{released-in}
 use Rattle.ipc_rules.proofs.AfterRevoke as revokes
 use Rattle.ipc_rules.proofs.AfterClear.{clear-clears}
 use Rattle.ipc_rules.proofs.AfterCounts.{send-counts, recv-counts, park-counts, revoke-counts}
-use Rattle.history.specs.Calls.{Call, create, send, receive, park, queued, revoke, register, release, holders, clear, noteAuthority, noteState, counts, fourSlots, answer, after}
+use Rattle.history.specs.Calls.{Call, create, send, receive, park, queued, revoke, register, release, holders, clear, noteAuthority, noteState, counts, fourSlots, sent, answer, after}
 use Rattle.history.specs.Numbers.{numberOf}
 use Rattle.history.specs.World.{World, ifCreated, onCreation, settled, step}
-use Rattle.history.specs.Refusals.{listed, countsAfter, Refused, RefusalsCount, CountsTold}
+use Rattle.history.specs.Refusals.{listed, countsAfter, Refused, RefusalsCount, CountsTold, RowsRefused}
 use Rattle.history.proofs.Kept.{step-table, reached-sound}
 use Rattle.history.proofs.Steps.{numbered}
 
@@ -53,14 +57,16 @@ record Refuses (t : Table) (call : Call) (n : ℕ) (u : Table) : Type 0 where
   only : u ≡ withRefusals t (countsAfter call n (t .counters .refusals))
 
 module _ (t : Table) (σ : Sound t) where
-  send-refuses : (c : CapId) (m : Message) → (sendNumber (sendOf t c m .answer) ≡ no.none → ⊥) → Refuses t (send c m) (sendNumber (sendOf t c m .answer)) (sendOf t c m .table)
+  send-refuses : (c : CapId) (p : Payload) (row : ℕ) → (sendNumber (sendOf t c p row .answer) ≡ no.none → ⊥) →
+      Refuses t (send c p row) (sendNumber (sendOf t c p row .answer)) (sendOf t c p row .table)
   unfolding listed countsAfter countsBy pick
-  send-refuses c m = by (sends.send-ways t c m σ)
+  send-refuses c p row = by (sends.send-ways t c p row σ)
     where
-      by : {r : Sending} → sends.SendWays t c m r → (sendNumber (r .answer) ≡ no.none → ⊥) → Refuses t (send c m) (sendNumber (r .answer)) (r .table)
-      by (sends.bad-cap _ q) h = rw q (record { given = refl; only = refl })
-      by (sends.full _ _ _ q) h = rw q (record { given = refl; only = refl })
-      by (sends.sent _ x) h = absurd (h (ap sendNumber (x .answer)))
+      by : {r : Sending} → sends.SendWays t c p row r → (sendNumber (r .answer) ≡ no.none → ⊥) → Refuses t (send c p row) (sendNumber (r .answer)) (r .table)
+      by (sends.bad-row _ q) h = rw q (record { given = refl; only = refl })
+      by (sends.bad-cap _ _ q) h = rw q (record { given = refl; only = refl })
+      by (sends.full _ _ _ _ q) h = rw q (record { given = refl; only = refl })
+      by (sends.sent _ _ x) h = absurd (h (ap sendNumber (x .answer)))
 
   recv-refuses : (c : CapId) → (recvNumber (recvOf t c .answer) ≡ no.none → ⊥) → Refuses t (receive c) (recvNumber (recvOf t c .answer)) (recvOf t c .table)
   unfolding listed countsAfter countsBy pick
@@ -133,7 +139,7 @@ create-refused w b σ = by (creates.create-ways (w .table) b σ)
 pub refusals-count : RefusalsCount
 unfolding step answer after onCreation releaseOf clearOf
 refusals-count w reached (create b) h = create-refused w b (reached-sound reached) h
-refusals-count w reached (send c m) h = settles w (send c m) _ _ refl (send-refuses (w .table) (reached-sound reached) c m h)
+refusals-count w reached (send c p row) h = settles w (send c p row) _ _ refl (send-refuses (w .table) (reached-sound reached) c p row h)
 refusals-count w reached (receive c) h = settles w (receive c) _ _ refl (recv-refuses (w .table) (reached-sound reached) c h)
 refusals-count w reached (park c task) h = settles w (park c task) _ _ refl (park-refuses (w .table) (reached-sound reached) c task h)
 refusals-count w reached (queued c) h = settles w (queued c) _ _ refl (queued-refuses (w .table) (reached-sound reached) c h)
@@ -167,7 +173,7 @@ register-counts t words σ = by (registers.register-call-ways t words σ)
 pub after-counts : (t : Table) (call : Call) → Sound t → after t call .counters .refusals ≡ countsAfter call (numberOf (answer t call)) (t .counters .refusals)
 unfolding answer after countsAfter countsBy pick releaseOf clearOf
 after-counts t (create b) σ = create-counts t b σ
-after-counts t (send c m) σ = send-counts t σ c m
+after-counts t (send c p row) σ = send-counts t σ c p row
 after-counts t (receive c) σ = recv-counts t σ c
 after-counts t (park c task) σ = park-counts t σ c task
 after-counts t (queued c) σ = refl
@@ -182,3 +188,15 @@ after-counts t counts σ = refl
 
 pub counts-told : CountsTold
 counts-told w reached call = ap (λ (u : Table). u .counters .refusals) (step-table w call) ∙ after-counts (w .table) call (reached-sound reached)
+
+-- ---- a row from 54 up
+row-refused : (t : Table) (c : CapId) (p : Payload) (row : ℕ) → 54 ≤ row → sendOf t c p row ≡ record { answer = BadRow; table = t }
+unfolding sendOf pick
+row-refused t c p row h = rw (le-leb 54 row h)
+
+pub rows-refused : RowsRefused
+unfolding answer after
+rows-refused t c p row = (
+  λ h. record { answers = ap (λ (r : Sending). sent (r .answer)) (row-refused t c p row h); leaves = ap (λ (r : Sending). r .table) (row-refused t c p row h) },
+  λ e. ⊎-elim (λ l. absurd (sends.row-passes t c p row l (ap numberOf e))) (λ h. h) (below? row 54),
+)

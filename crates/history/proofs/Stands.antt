@@ -12,7 +12,7 @@ use Rattle.cap.specs.Rights.{sendRight, receiveRight}
 use Rattle.cap.specs.Slot.{holding}
 use Rattle.cap.specs.Word.{wordOf, wordsRead, orVacant, slotsOf}
 use Rattle.cap.proofs.Words.{holding-back, reads-test}
-use Rattle.ipc_rules.specs.State.{nobody, waiting}
+use Rattle.ipc_rules.specs.State.{nobody, waiting, stamped}
 use Rattle.ipc_rules.specs.Sound.{Sound}
 use Rattle.ipc_rules.specs.Counts.{raised}
 use Rattle.ipc_rules.specs.Opening.{openingOf, holdOf}
@@ -22,6 +22,7 @@ use Rattle.ipc_rules.specs.Holds.{registerOf}
 use Rattle.ipc_rules.specs.Views.{queueOf, waiterOf, holdCount, ephemeralOf, heldIn, raisedBy, Steady}
 use Rattle.ipc_rules.specs.declared.state.Channel.{Channel}
 use Rattle.ipc_rules.specs.declared.state.Message.{Message}
+use Rattle.ipc_rules.specs.declared.state.Payload.{Payload}
 use Rattle.ipc_rules.specs.declared.state.TaskId.{TaskId}
 use Rattle.ipc_rules.specs.declared.state.Waiter.{Waiter}
 use Rattle.ipc_rules.specs.declared.state.Table.{Table}
@@ -65,13 +66,13 @@ module _ {t : Table} {k : ℕ} {ids : Channel} {b : Bool} {n : ℕ} where
       }
 
   -- ---- send
-  pub send-stands : {x : Waiter} (m : Message) → Stands t k ids b n [] x →
-      (sendOf t (ids .send) m .answer ≡ Sent x) × Stands (sendOf t (ids .send) m .table) k ids b n (m ∷ []) nobody
-  send-stands m s =
+  pub send-stands : {x : Waiter} (p : Payload) (row : ℕ) → row < 54 → Stands t k ids b n [] x →
+      (sendOf t (ids .send) p row .answer ≡ Sent x) × Stands (sendOf t (ids .send) p row .table) k ids b n (stamped p row ∷ []) nobody
+  send-stands p row sender s =
       let d = s .sound .sizes .deep in
-      let y = send-accepts t (ids .send) m (s .sound) (record { box = k; opens = s .sends; below = rw (s .queue) d }) in
-      let q = y .queue ∙ ap (λ (q : List Message). q ++ (m ∷ [])) (s .queue) in
-      (y .answer ∙ ap Sent (s .waiter), still s (send-kept t (ids .send) m (s .sound)) (y .rest .steady) (y .ephemeral) (y .holds ∙ s .holds) q (y .waiter))
+      let y = send-accepts t (ids .send) p row (s .sound) sender (record { box = k; opens = s .sends; below = rw (s .queue) d }) in
+      let q = y .queue ∙ ap (λ (q : List Message). q ++ (stamped p row ∷ [])) (s .queue) in
+      (y .answer ∙ ap Sent (s .waiter), still s (send-kept t (ids .send) p row (s .sound)) (y .rest .steady) (y .ephemeral) (y .holds ∙ s .holds) q (y .waiter))
 
   -- ---- receive, and park, where one message is queued
   gives-stands : {x : Waiter} {m m′ : Message} {u : Table} → Sound u → Stands t k ids b n (m ∷ []) x → receives.Gives t k m′ u → (m′ ≡ m) × Stands u k ids b n [] x

@@ -65,7 +65,7 @@ holders-calm holding.the-variants.BadTable = refl
 by-call : (w : World) (c : Call) (x : Refusals) → countsAfter c (numberOf (answer (w .table) c)) x .state ≡ raisedBy (stateRefusal c (numberOf (answer (w .table) c))) (x .state)
 unfolding answer countsAfter countsBy stateRefusal notesState raisedBy pick
 by-call w (create b) x = by-number (numberOf (answer (w .table) (create b))) x
-by-call w (send c m) x = by-number (numberOf (answer (w .table) (send c m))) x
+by-call w (send c p row) x = by-number (numberOf (answer (w .table) (send c p row))) x
 by-call w (receive c) x = by-number (numberOf (answer (w .table) (receive c))) x
 by-call w (park c task) x = by-number (numberOf (answer (w .table) (park c task))) x
 by-call w (queued c) x = rw (queued-calm (queuedOf (w .table) c))

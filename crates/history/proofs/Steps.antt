@@ -105,7 +105,7 @@ revoke-shrinks t c s = by (revoke-ways t c s)
 pub step-ways : (w : World) (c : Call) → Sound (w .table) → StepWays w c (step w c)
 unfolding step answer after onCreation releaseOf
 step-ways w (create b) s = create-step w b s
-step-ways w (send c m) s = settles (steady-shrinks _ _ (send-steady (w .table) c m s)) refl
+step-ways w (send c p row) s = settles (steady-shrinks _ _ (send-steady (w .table) c p row s)) refl
 step-ways w (receive c) s = settles (steady-shrinks _ _ (recv-steady (w .table) c s)) refl
 step-ways w (park c task) s = settles (steady-shrinks _ _ (park-steady (w .table) c task s)) refl
 step-ways w (queued c) s = settles (unchanged (w .table)) refl

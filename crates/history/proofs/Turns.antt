@@ -12,11 +12,12 @@ use Rattle.laws.proofs.Bools.{same?}
 use Rattle.laws.proofs.Cases.{all-pick, not-both}
 use Rattle.cap.specs.Rights.{sendRight, receiveRight}
 use Rattle.cap.specs.declared.CapId.{CapId}
-use Rattle.ipc_rules.specs.State.{mailboxLive}
+use Rattle.ipc_rules.specs.State.{stamped, mailboxLive}
 use Rattle.ipc_rules.specs.Holds.{releaseOf}
 use Rattle.ipc_rules.specs.Opening.{anyRightOf, opened}
 use Rattle.ipc_rules.specs.Views.{queueOf, ephemeralOf, Alike}
 use Rattle.ipc_rules.specs.declared.state.Message.{Message}
+use Rattle.ipc_rules.specs.declared.state.Payload.{Payload}
 use Rattle.ipc_rules.specs.declared.state.TaskId.{TaskId}
 use Rattle.ipc_rules.specs.declared.state.Table.{Table}
 use Rattle.ipc_rules.specs.declared.answers.Sending.{Sending}
@@ -76,11 +77,13 @@ module _ (w : World) (τ : Tidy w) (n k : ℕ) (h : LivesIn w n k) where
   none-out b u x = rw (pick-same {A = List Message} b []) x
 
   -- ---- send
-  sends : (c : CapId) (m : Message) {r : Sending} → after-send.SendWays t c m r → Turn w (settled w (r .table)) n k [] (pick (on w n c sendRight) (ifSent (r .answer) m) [])
+  sends : (c : CapId) (p : Payload) (row : ℕ) {r : Sending} → after-send.SendWays t c p row r →
+      Turn w (settled w (r .table)) n k [] (pick (on w n c sendRight) (ifSent (r .answer) (stamped p row)) [])
   unfolding leads opened ifSent
-  sends c m (after-send.bad-cap o q) = rw q (none-in (on w n c sendRight) _ (alike _ (authority-only t .mailboxes k)))
-  sends c m (after-send.full _ _ _ q) = rw q (none-in (on w n c sendRight) _ (alike _ (full-only t .mailboxes k)))
-  sends c m {r} (after-send.sent a x) =
+  sends c p row (after-send.bad-row _ q) = rw q (none-in (on w n c sendRight) _ (alike _ (alike-same t k)))
+  sends c p row (after-send.bad-cap _ o q) = rw q (none-in (on w n c sendRight) _ (alike _ (authority-only t .mailboxes k)))
+  sends c p row (after-send.full _ _ _ _ q) = rw q (none-in (on w n c sendRight) _ (alike _ (full-only t .mailboxes k)))
+  sends c p row {r} (after-send.sent _ a x) =
       rw (a .opens, x .answer)
       (all-pick (Turn w (settled w (r .table)) n k []) (eqb (w .tenant (a .box)) n) _ _
       (λ e. let i = here (a .box) (opens-live t c sendRight (a .box) (τ .sound) (a .opens)) e in
@@ -143,7 +146,7 @@ module _ (w : World) (τ : Tidy w) (n k : ℕ) (h : LivesIn w n k) where
   pub turn : (c : Call) → revokes w n c ≡ false → Turn w (step w c) n k (given w n c) (accepted w n c)
   unfolding step answer after onCreation given accepted revokes releaseOf
   turn (create b) _ = creates b
-  turn (send c m) _ = sends c m (after-send.send-ways t c m (τ .sound))
+  turn (send c p row) _ = sends c p row (after-send.send-ways t c p row (τ .sound))
   turn (receive c) _ = receives c (after-recv.recv-ways t c (τ .sound))
   turn (park c task) _ = parks c task (after-park.park-ways t c task (τ .sound))
   turn (queued c) _ = alike t (alike-same t k)

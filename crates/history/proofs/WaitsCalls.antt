@@ -22,7 +22,7 @@ use Rattle.ipc_rules.specs.Receive.{sameTask}
 use Rattle.ipc_rules.specs.Holds.{fourOf, releaseOf, releasedAll}
 use Rattle.ipc_rules.specs.Waiters.{clearOf}
 use Rattle.ipc_rules.specs.Views.{waiterOf, holdCount, ephemeralOf, heldIn, Alike}
-use Rattle.ipc_rules.specs.declared.state.Message.{Message}
+use Rattle.ipc_rules.specs.declared.state.Payload.{Payload}
 use Rattle.ipc_rules.specs.declared.state.TaskId.{TaskId}
 use Rattle.ipc_rules.specs.declared.state.Waiter.{Waiter}
 use Rattle.ipc_rules.specs.declared.state.Table.{Table}
@@ -37,6 +37,7 @@ use Rattle.ipc_rules.specs.declared.answers.RevokeAnswer.the-variants.{Revoked}
 use Rattle.ipc_rules.specs.declared.opening.Opening.the-variants.{Opens, Shut}
 use Rattle.ipc_rules.proofs.Openings.{opens-live}
 use Rattle.ipc_rules.proofs.Tasks.{same-task, task-same}
+use Rattle.ipc_rules.proofs.Changes.{alike-same}
 use Rattle.ipc_rules.proofs.AfterSend as send
 use Rattle.ipc_rules.proofs.AfterReceive as recv
 use Rattle.ipc_rules.proofs.AfterPark as park
@@ -99,10 +100,11 @@ module _ (w : World) (τ : Tidy w) (n k : ℕ) (x : TaskId) (h : Waits w n k x) 
   was j e = ap (waiterOf t) (sym e) ∙ h .waiter
 
   -- ---- send
-  send-out : (c : CapId) (m : Message) (r : Sending) → send.SendWays t c m r → Outcome t (r .table) k (r .answer ≡ Sent (waiting x)) (on w n c sendRight && eqb (sendNumber (r .answer)) no.none)
-  send-out c m r (send.bad-cap o q) = rw (o, q, nowhere) (alike-stays (authority-only t .mailboxes k))
-  send-out c m r (send.full j o e q) = rw (q, refused (on w n c sendRight)) (alike-stays (full-only t .mailboxes k))
-  send-out c m r (send.sent a y) =
+  send-out : (c : CapId) (p : Payload) (row : ℕ) (r : Sending) → send.SendWays t c p row r → Outcome t (r .table) k (r .answer ≡ Sent (waiting x)) (on w n c sendRight && eqb (sendNumber (r .answer)) no.none)
+  send-out c p row r (send.bad-row _ q) = rw (q, refused (on w n c sendRight)) (alike-stays (alike-same t k))
+  send-out c p row r (send.bad-cap _ o q) = rw (o, q, nowhere) (alike-stays (authority-only t .mailboxes k))
+  send-out c p row r (send.full _ j o e q) = rw (q, refused (on w n c sendRight)) (alike-stays (full-only t .mailboxes k))
+  send-out c p row r (send.sent _ a y) =
       ⊎-elim (λ e. rw (a .opens, ← e, here, y .answer) (gone (rw e (y .waiter)) (ap Sent (was (a .box) e))))
       (λ ne. rw (a .opens, elsewhere (a .box) (opens-live t c sendRight (a .box) (τ .sound) (a .opens)) ne) (alike-stays (y .rest .others k ne)))
       (same? k (a .box))
@@ -173,7 +175,7 @@ module _ (w : World) (τ : Tidy w) (n k : ℕ) (x : TaskId) (h : Waits w n k x) 
   pub outcome : (c : Call) → Outcome t (after t c) k (Names t k x c ⊎ Clears x c) (ends w n k x c)
   unfolding ends answer after
   outcome (call.create b) = alike-stays (create-others t b (τ .sound) k (h .lives .live))
-  outcome (call.send c m) = then (λ e. inl (by-send (ap call.sent e))) (send-out c m _ (send.send-ways t c m (τ .sound)))
+  outcome (call.send c p row) = then (λ e. inl (by-send (ap call.sent e))) (send-out c p row _ (send.send-ways t c p row (τ .sound)))
   outcome (call.receive c) = recv-out c _ (recv.recv-ways t c (τ .sound))
   outcome (call.park c y) = park-out c y _ (park.park-ways t c y (τ .sound))
   outcome (call.queued c) = stays refl refl

@@ -14,7 +14,7 @@ use Rattle.ipc_rules.specs.Observe.{queuedOf, holdersOf, refusalsOf}
 use Rattle.ipc_rules.specs.Holds.{registerOf, releaseOf}
 use Rattle.ipc_rules.specs.Revoke.{revokeOf}
 use Rattle.ipc_rules.specs.Waiters.{clearOf}
-use Rattle.ipc_rules.specs.declared.state.Message.{Message}
+use Rattle.ipc_rules.specs.declared.state.Payload.{Payload}
 use Rattle.ipc_rules.specs.declared.state.TaskId.{TaskId}
 use Rattle.ipc_rules.specs.declared.state.Waiter.{Waiter}
 use Rattle.ipc_rules.specs.declared.state.Table.{Table}
@@ -31,10 +31,11 @@ use Rattle.ipc_rules.specs.declared.answers.ClearAnswer.{ClearAnswer}
 use Rattle.ipc_rules.specs.declared.answers.NoteAnswer.{NoteAnswer}
 use Rattle.ipc_rules.specs.declared.answers.RefusalsAnswer.{RefusalsAnswer}
 
--- a register has a list as words, any length; a release has exactly four places
+-- a send has what the sender hands in, and the sending row, which the kernel names (request No. 10); a register has a list as words, any
+-- length; a release has exactly four places
 pub data Call : Type 0 where
   create : Bool → Call
-  send : CapId → Message → Call
+  send : CapId → Payload → ℕ → Call
   receive : CapId → Call
   park : CapId → TaskId → Call
   queued : CapId → Call
@@ -72,7 +73,7 @@ releasing ss = release (getD ss 0 vacantSlot) (getD ss 1 vacantSlot) (getD ss 2 
 
 unfoldable pub answer : Table → Call → Answer
 answer t (create ephemeral) = created (createOf t ephemeral .answer)
-answer t (send c m) = sent (sendOf t c m .answer)
+answer t (send c p row) = sent (sendOf t c p row .answer)
 answer t (receive c) = received (recvOf t c .answer)
 answer t (park c task) = parked (parkOf t c task .answer)
 answer t (queued c) = measured (queuedOf t c)
@@ -88,7 +89,7 @@ answer t counts = counted (refusalsOf t)
 -- `queued`, holders and counts only look
 unfoldable pub after : Table → Call → Table
 after t (create ephemeral) = createOf t ephemeral .table
-after t (send c m) = sendOf t c m .table
+after t (send c p row) = sendOf t c p row .table
 after t (receive c) = recvOf t c .table
 after t (park c task) = parkOf t c task .table
 after t (queued c) = t

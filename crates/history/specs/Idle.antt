@@ -9,12 +9,13 @@
 use mathlib.Core.Path.{_≡_}
 use mathlib.Core.Bool.{Bool, false}
 use mathlib.Core.List.{List, [], _∷_}
-use Prim.Native.Nat.{ℕ}
+use Prim.Native.Nat.{ℕ, _<_}
 use Rattle.cap.specs.Slot.{holding}
 use Rattle.cap.specs.Word.{wordOf}
-use Rattle.ipc_rules.specs.State.{nobody, waiting, sizesOf}
+use Rattle.ipc_rules.specs.State.{nobody, waiting, stamped, sizesOf}
 use Rattle.ipc_rules.specs.declared.state.Channel.{Channel}
 use Rattle.ipc_rules.specs.declared.state.Message.{Message}
+use Rattle.ipc_rules.specs.declared.state.Payload.{Payload}
 use Rattle.ipc_rules.specs.declared.state.TaskId.{TaskId}
 use Rattle.ipc_rules.specs.declared.answers.SendAnswer.the-variants.{Sent}
 use Rattle.ipc_rules.specs.declared.answers.RecvAnswer.the-variants.{Received}
@@ -35,36 +36,46 @@ abbrev pub FreshCreates : Type 0
 FreshCreates = (d : ℕ) (ephemeral : Bool) → CreatesTwo d ephemeral
 
 -- ---- messages
--- each message is sent and received, one after another
-unfoldable pub exchange : Channel → List Message → List Call
+-- what is handed in, and the row that writes it, one of the 54
+pub record Sentence : Type 0 where
+  pub parts : Payload
+  pub row : ℕ
+  pub sender : row < 54
+
+-- as it comes out
+abbrev pub written : Sentence → Message
+written x = stamped (x .parts) (x .row)
+
+-- each is sent and received, one after another
+unfoldable pub exchange : Channel → List Sentence → List Call
 exchange ids [] = []
-exchange ids (m ∷ ms) = send (ids .send) m ∷ receive (ids .recv) ∷ exchange ids ms
+exchange ids (x ∷ xs) = send (ids .send) (x .parts) (x .row) ∷ receive (ids .recv) ∷ exchange ids xs
 
 -- each comes out
-unfoldable pub exchanged : List Message → List Answer
+unfoldable pub exchanged : List Sentence → List Answer
 exchanged [] = []
-exchanged (m ∷ ms) = sent (Sent nobody) ∷ received (Received m) ∷ exchanged ms
+exchanged (x ∷ xs) = sent (Sent nobody) ∷ received (Received (written x)) ∷ exchanged xs
 
 abbrev pub MessagesCome : Type 0
 MessagesCome =
     (w : World) → Reached w → (b : Bool) (n : ℕ) (ids : Channel) → Makes w b n ids →
-    (ms : List Message) → answers (step w (create b)) (exchange ids ms) ≡ exchanged ms
+    (xs : List Sentence) → answers (step w (create b)) (exchange ids xs) ≡ exchanged xs
 
 -- ---- waiters
--- a task that waits, and the message that it waits for
+-- a task that waits, and the sentence that it waits for
 pub record Wait : Type 0 where
   pub task : TaskId
-  pub message : Message
+  pub sentence : Sentence
 
--- each task parks, its message is sent, and it parks again, one after another
+-- each task parks, its sentence is sent, and it parks again, one after another
 unfoldable pub waits : Channel → List Wait → List Call
 waits ids [] = []
-waits ids (x ∷ xs) = park (ids .recv) (x .task) ∷ send (ids .send) (x .message) ∷ park (ids .recv) (x .task) ∷ waits ids xs
+waits ids (x ∷ xs) = park (ids .recv) (x .task) ∷ send (ids .send) (x .sentence .parts) (x .sentence .row) ∷ park (ids .recv) (x .task) ∷ waits ids xs
 
--- each send names the task, which is then given the message
+-- each send names the task, which is then given the sentence
 unfoldable pub waited : List Wait → List Answer
 waited [] = []
-waited (x ∷ xs) = parked Parked ∷ sent (Sent (waiting (x .task))) ∷ parked (Given (x .message)) ∷ waited xs
+waited (x ∷ xs) = parked Parked ∷ sent (Sent (waiting (x .task))) ∷ parked (Given (written (x .sentence))) ∷ waited xs
 
 abbrev pub WaitersNamed : Type 0
 WaitersNamed =

@@ -9,6 +9,7 @@ pub mod Public
 pub mod Waits
 pub mod Traffic
 pub mod Messages
+pub mod Stamps
 pub mod Edges
 pub mod Idle
 pub mod Joined

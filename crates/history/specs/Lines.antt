@@ -45,10 +45,10 @@ OperationsTell =
     (c : Call) (cs : List Call) → callsOf o (s .tables) ≡ c ∷ cs → Tells (s .world) (c ∷ cs) (doneBy o (s .tables))
 
 -- ---- a message
--- the line shows message m: a receive as `tag a b`, a park as `1 tag a b`
+-- the line shows message m, its stamp last: a receive as `tag a b row`, a park as `1 tag a b row`
 pub data ShowsMessage (m : Message) (line : List ℕ) : Type 0 where
-  receive-line : line ≡ 3 ∷ no.none ∷ m .tag ∷ m .a ∷ m .b ∷ [] → ShowsMessage m line
-  park-line : line ≡ 4 ∷ no.none ∷ 1 ∷ m .tag ∷ m .a ∷ m .b ∷ [] → ShowsMessage m line
+  receive-line : line ≡ 3 ∷ no.none ∷ m .tag ∷ m .a ∷ m .b ∷ m .row ∷ [] → ShowsMessage m line
+  park-line : line ≡ 4 ∷ no.none ∷ 1 ∷ m .tag ∷ m .a ∷ m .b ∷ m .row ∷ [] → ShowsMessage m line
 
 -- an operation gives a message exactly where its line shows it, from one channel or another
 pub record SomeShows (s : Logged) (o : Operation) (m : Message) : Type 0 where

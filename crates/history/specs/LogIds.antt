@@ -1,14 +1,16 @@
 -- Demand 3's first sentence in a log: "From its creation, an id of channel n opens channel n or nothing until 65,535 later creations have
 -- succeeded." The ids are those that the line of a create shows; channels are numbered from the log's start, or from the last `new` that
--- was accepted, and it is so up to the next. The line of an operation with such an id shows BadCap, or what that channel's mailbox answers; the lines
--- of operations with lists show no answer to a single id, and what their calls do with it is `Reach`.
+-- was accepted, and it is so up to the next. The line of an operation with such an id shows BadCap, or what that channel's mailbox answers. A
+-- send whose row is from 54 up would show 19 and touch nothing; in a log that is read it is refused before (25, `logread` `operandsOk`). The
+-- lines of operations with lists show no answer to a single id, and what their calls do with it is `Reach`.
 use mathlib.Core.Path.{_≡_}
 use mathlib.Core.Bool.{true}
 use mathlib.Core.List.{List, [], _∷_}
 use mathlib.Core.Logic.{_⊎_}
-use Prim.Native.Nat.{ℕ, suc, _+_, _<_}
+use Prim.Native.Nat.{ℕ, suc, _+_, _≤_, _<_}
 use Rattle.laws.specs.Refusals as no
 use Rattle.cap.specs.declared.CapId.{CapId}
+use Rattle.logread.specs.Little.{byteAt}
 use Rattle.operations.specs.Operands.{idAt, taskAt}
 use Rattle.history.specs.Calls.{Answer}
 use Rattle.history.specs.Numbers.{numberOf, valuesOf}
@@ -30,7 +32,8 @@ pub data LineReaches (s : Logged) (n : ℕ) (o : Operation) (of : ℕ → Answer
 
 -- of each operation with the id c, by its number
 pub record LinesReach (s : Logged) (n : ℕ) (c : CapId) : Type 0 where
-  pub send : (log : List ℕ) → idAt log 3 ≡ c → LineReaches s n (record { number = 2; bytes = log }) (sendAt (s .world .table))
+  pub send : (log : List ℕ) → idAt log 3 ≡ c → byteAt log 27 < 54 → LineReaches s n (record { number = 2; bytes = log }) (sendAt (s .world .table))
+  pub send-refused : (log : List ℕ) → 54 ≤ byteAt log 27 → lineIn s (record { number = 2; bytes = log }) ≡ 2 ∷ no.badRow ∷ []
   pub receive : (log : List ℕ) → idAt log 3 ≡ c → LineReaches s n (record { number = 3; bytes = log }) (receiveAt (s .world .table))
   pub park : (log : List ℕ) → idAt log 3 ≡ c → LineReaches s n (record { number = 4; bytes = log }) (parkAt (s .world .table) (taskAt log 7))
   pub queued : (log : List ℕ) → idAt log 3 ≡ c → LineReaches s n (record { number = 5; bytes = log }) (queuedAt (s .world .table))

@@ -1,15 +1,18 @@
 -- Demand 3's second sentence in a log: "A message accepted behind q others is given out unchanged, once, by the (q+1)-th call after it that
--- gives a message from that channel, unless the channel is revoked first." The message is one of a send whose line shows 0; the calls after
--- it are those of the operations that follow, up to the next accepted `new`; and the line of the operation that gives it shows it.
+-- gives a message from that channel, unless the channel is revoked first." The message is one of a send whose line shows 0: its three parts,
+-- and the row that is the record's last operand (request No. 10). The calls after it are those of the operations that follow, up to the
+-- next accepted `new`; and the line of the operation that gives it shows all four.
 use mathlib.Core.Path.{_≡_}
 use mathlib.Core.Bool.{true}
 use mathlib.Core.List.{List, [], _∷_, _++_}
 use Prim.Native.Nat.{ℕ}
 use lib.ListN.{length}
 use Rattle.laws.specs.Refusals as no
+use Rattle.ipc_rules.specs.State.{stamped}
 use Rattle.ipc_rules.specs.Views.{queueOf}
 use Rattle.ipc_rules.specs.declared.state.Message.{Message}
-use Rattle.operations.specs.Operands.{idAt, messageAt}
+use Rattle.logread.specs.Little.{byteAt}
+use Rattle.operations.specs.Operands.{idAt, payloadAt}
 use Rattle.history.specs.Traffic.{allAccepted, allGiven, Spares}
 use Rattle.history.specs.Messages.{AcceptedBehind}
 use Rattle.history.specs.Operations.{Operation, doneBy, Logged, operate, operated, beginning, lasting, callsOver}
@@ -18,6 +21,10 @@ use Rattle.history.specs.Lines.{lineIn, ShowsMessage}
 -- 2, send
 abbrev pub sending : List ℕ → Operation
 sending log = record { number = 2; bytes = log }
+
+-- the message that it makes, if it is accepted
+abbrev pub sentBy : List ℕ → Message
+sentBy log = stamped (payloadAt log 7) (byteAt log 27)
 
 -- ---- what operations put into channel n, what they give from it, and that none revokes it
 abbrev pub putBy : Logged → ℕ → List Operation → List Message
@@ -46,10 +53,10 @@ pub record GivenInLog (s : Logged) (log : List ℕ) : Type 0 where
   pub number : ℕ
   pub box : ℕ
   pub ahead : ℕ
-  pub accepted : AcceptedBehind (s .world) number box ahead (idAt log 3) (messageAt log 7)
+  pub accepted : AcceptedBehind (s .world) number box ahead (idAt log 3) (payloadAt log 7) (byteAt log 27)
   pub once :
       (between : List Operation) → lasting between ≡ true → let v = operate s (sending log) in SparedBy v number between → length (givenBy v number between) ≡ ahead →
-      (o : Operation) (x : Message) → givenBy (operated v between) number (o ∷ []) ≡ x ∷ [] → ShownOnce s v number box (messageAt log 7) between o
+      (o : Operation) (x : Message) → givenBy (operated v between) number (o ∷ []) ≡ x ∷ [] → ShownOnce s v number box (sentBy log) between o
 
 abbrev pub LogMessagesGiven : Type 0
 LogMessagesGiven =

@@ -16,7 +16,7 @@ use Rattle.logread.specs.Lists.{listSlots, listWords}
 use Rattle.operations.specs.Apply.{applyOf}
 use Rattle.operations.specs.Channels.{allFresh}
 use Rattle.operations.specs.Done.{Done}
-use Rattle.operations.specs.Operands.{idAt, taskAt, messageAt, sizesAt}
+use Rattle.operations.specs.Operands.{idAt, taskAt, payloadAt, sizesAt}
 use Rattle.operations.specs.declared.Tables.{Tables}
 use Rattle.history.specs.Calls.{Call, create, send, receive, park, queued, revoke, register, releasing, holders, clear, noteAuthority, noteState, counts}
 use Rattle.history.specs.World.{World, run, start, Reached}
@@ -37,7 +37,7 @@ abbrev pub allCalls : List ℕ → Tables → List (List Call)
 allCalls log t =
     [] ∷
     (create (not (eqb (byteAt log 3) 0)) ∷ []) ∷
-    (send (idAt log 3) (messageAt log 7) ∷ []) ∷
+    (send (idAt log 3) (payloadAt log 7) (byteAt log 27) ∷ []) ∷
     (receive (idAt log 3) ∷ []) ∷
     (park (idAt log 3) (taskAt log 7) ∷ []) ∷
     (queued (idAt log 3) ∷ []) ∷

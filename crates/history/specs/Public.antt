@@ -9,7 +9,7 @@ use Rattle.history.specs.World.{World, Reached}
 -- what the public function answers, and the table that it gives back
 unfoldable pub publicAnswer : Table → Call → Answer
 publicAnswer t (create ephemeral) = created (createCall t ephemeral .answer)
-publicAnswer t (send c m) = sent (sendCall t c m .answer)
+publicAnswer t (send c p row) = sent (sendCall t c p row .answer)
 publicAnswer t (receive c) = received (recvCall t c .answer)
 publicAnswer t (park c task) = parked (parkCall t c task .answer)
 publicAnswer t (queued c) = measured (queuedCall t c)
@@ -24,7 +24,7 @@ publicAnswer t counts = counted (refusalsCall t)
 
 unfoldable pub publicAfter : Table → Call → Table
 publicAfter t (create ephemeral) = createCall t ephemeral .table
-publicAfter t (send c m) = sendCall t c m .table
+publicAfter t (send c p row) = sendCall t c p row .table
 publicAfter t (receive c) = recvCall t c .table
 publicAfter t (park c task) = parkCall t c task .table
 publicAfter t (queued c) = t

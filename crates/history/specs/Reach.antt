@@ -1,13 +1,14 @@
 -- Demand 3: "an id of channel n opens channel n or nothing", by call: what each call does with an id that opens the one or the other.
 --
---   a call with one id                       `Reaches`: refused with BadCap, or answered by the mailbox where n lives, and no other changes
+--   a call with one id                       `Reaches`: refused with BadCap, or answered by the mailbox where n lives, and no other changes; a
+--                                            send that names a row from 54 up is refused before its id is looked at: `RowRefused`
 --   the lists of a register and a release    `Touches`: the slot's own step changes that mailbox alone, or nothing; `AlikeBut`: so other
 --                                            mailboxes are changed by the other ids of the list alone
 use mathlib.Core.Path.{_≡_}
 use mathlib.Core.Bool.{Bool, _&&_}
 use mathlib.Core.List.{List, [], _∷_}
 use mathlib.Core.Logic.{_⊎_}
-use Prim.Native.Nat.{ℕ}
+use Prim.Native.Nat.{ℕ, _≤_, _<_}
 use lib.Dec.{eqb}
 use lib.ListN.{getD, length, set}
 use Rattle.laws.specs.Pick.{pick}
@@ -21,6 +22,7 @@ use Rattle.ipc_rules.specs.Holds.{registered, registeredAll, Freed, released, r
 use Rattle.ipc_rules.specs.Receive.{otherWaits}
 use Rattle.ipc_rules.specs.Views.{queueOf, waiterOf, holdCount, ephemeralOf, Alike, OnlyMailbox, OnlyCounts}
 use Rattle.ipc_rules.specs.declared.state.Message.{Message}
+use Rattle.ipc_rules.specs.declared.state.Payload.{Payload}
 use Rattle.ipc_rules.specs.declared.state.TaskId.{TaskId}
 use Rattle.ipc_rules.specs.declared.state.Waiter.{Waiter}
 use Rattle.ipc_rules.specs.declared.state.Table.{Table}
@@ -34,6 +36,7 @@ use Rattle.ipc_rules.specs.declared.answers.HoldersAnswer.the-variants.{Holders
 use Rattle.ipc_rules.specs.declared.answers.RevokeAnswer.the-variants.{Revoked}
 use Rattle.history.specs.Calls.{Call, send, receive, park, queued, revoke, register, releasing, holders, Answer, sent, received, parked, measured, revoked, held, answer, after}
 use Rattle.history.specs.Numbers.{numberOf, valuesOf}
+use Rattle.history.specs.Refusals.{RowRefused}
 use Rattle.history.specs.World.{World}
 use Rattle.history.specs.Channels.{LivesIn}
 
@@ -85,7 +88,8 @@ AlikeBut w n call other = (j : ℕ) → (LivesIn w n j → ⊥) → Alike (after
 
 -- ---- every call with the id c
 pub record Reach (w : World) (n : ℕ) (c : CapId) : Type 0 where
-  pub send : (m : Message) → Reaches w n (send c m) (sendAt (w .table))
+  pub send : (p : Payload) (row : ℕ) → row < 54 → Reaches w n (send c p row) (sendAt (w .table))
+  pub send-refused : (p : Payload) (row : ℕ) → 54 ≤ row → RowRefused (w .table) c p row
   pub receive : Reaches w n (receive c) (receiveAt (w .table))
   pub park : (task : TaskId) → Reaches w n (park c task) (parkAt (w .table) task)
   pub queued : Reaches w n (queued c) (queuedAt (w .table))

@@ -20,7 +20,7 @@ use Rattle.history.specs.Lines.{lineIn}
 -- the call notes a state refusal
 unfoldable pub notesState : Call → Bool
 notesState (create ephemeral) = false
-notesState (send c m) = false
+notesState (send c p row) = false
 notesState (receive c) = false
 notesState (park c task) = false
 notesState (queued c) = false

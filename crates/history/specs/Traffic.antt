@@ -5,6 +5,7 @@ use mathlib.Core.List.{List, [], _∷_, _++_}
 use Prim.Native.Nat.{ℕ}
 use Rattle.laws.specs.Pick.{pick}
 use Rattle.cap.specs.Rights.{sendRight, receiveRight}
+use Rattle.ipc_rules.specs.State.{stamped}
 use Rattle.ipc_rules.specs.Send.{sendOf}
 use Rattle.ipc_rules.specs.Receive.{recvOf, parkOf}
 use Rattle.ipc_rules.specs.declared.state.Message.{Message}
@@ -19,6 +20,7 @@ use Rattle.history.specs.Channels.{on, onAny}
 -- m, where its send was accepted
 unfoldable pub ifSent : send.SendAnswer → Message → List Message
 ifSent (send.the-variants.Sent w) m = m ∷ []
+ifSent send.the-variants.BadRow m = []
 ifSent send.the-variants.BadCap m = []
 ifSent send.the-variants.Full m = []
 ifSent send.the-variants.BadTable m = []
@@ -40,10 +42,10 @@ byPark park.the-variants.Cancelled = []
 byPark park.the-variants.BadTable = []
 
 -- ---- by call
--- the messages, one or none, that a call puts into channel n
+-- the messages, one or none, that a call puts into channel n: of an accepted send, what was handed in, stamped with the row that the call names
 unfoldable pub accepted : World → ℕ → Call → List Message
 accepted w n (create ephemeral) = []
-accepted w n (send c m) = pick (on w n c sendRight) (ifSent (sendOf (w .table) c m .answer) m) []
+accepted w n (send c p row) = pick (on w n c sendRight) (ifSent (sendOf (w .table) c p row .answer) (stamped p row)) []
 accepted w n (receive c) = []
 accepted w n (park c task) = []
 accepted w n (queued c) = []
@@ -59,7 +61,7 @@ accepted w n counts = []
 -- the messages, one or none, that a call gives from channel n
 unfoldable pub given : World → ℕ → Call → List Message
 given w n (create ephemeral) = []
-given w n (send c m) = []
+given w n (send c p row) = []
 given w n (receive c) = pick (on w n c receiveRight) (byReceive (recvOf (w .table) c .answer)) []
 given w n (park c task) = pick (on w n c receiveRight) (byPark (parkOf (w .table) c task .answer)) []
 given w n (queued c) = []
@@ -75,7 +77,7 @@ given w n counts = []
 -- whether a call revokes channel n
 unfoldable pub revokes : World → ℕ → Call → Bool
 revokes w n (create ephemeral) = false
-revokes w n (send c m) = false
+revokes w n (send c p row) = false
 revokes w n (receive c) = false
 revokes w n (park c task) = false
 revokes w n (queued c) = false

@@ -33,8 +33,8 @@ use Rattle.ipc_rules.specs.Send.{sendOf}
 use Rattle.ipc_rules.specs.Receive.{sameTask}
 use Rattle.ipc_rules.specs.Views.{waiterOf, holdCount, ephemeralOf, heldBy, heldIn}
 use Rattle.ipc_rules.specs.declared.state.Channel.{Channel}
+use Rattle.ipc_rules.specs.declared.state.Payload.{Payload}
 use Rattle.ipc_rules.specs.declared.state.TaskId.{TaskId}
-use Rattle.ipc_rules.specs.declared.state.Message.{Message}
 use Rattle.ipc_rules.specs.declared.state.Waiter.{Waiter}
 use Rattle.ipc_rules.specs.declared.state.Table.{Table}
 use Rattle.ipc_rules.specs.declared.answers.SendAnswer.the-variants.{Sent}
@@ -57,7 +57,7 @@ pub record Waits (w : World) (n k : ℕ) (x : TaskId) : Type 0 where
 -- whether a call ends the wait of x on channel n in mailbox k
 unfoldable pub ends : World → ℕ → ℕ → TaskId → Call → Bool
 ends w n k x (create b) = false
-ends w n k x (send c m) = on w n c sendRight && eqb (sendNumber (sendOf (w .table) c m .answer)) no.none
+ends w n k x (send c p row) = on w n c sendRight && eqb (sendNumber (sendOf (w .table) c p row .answer)) no.none
 ends w n k x (receive c) = false
 ends w n k x (park c y) = false
 ends w n k x (queued c) = false
@@ -87,7 +87,7 @@ turnOf t k xs (s ∷ ss) = pick (takesLast t xs s k) 0 (waitsEnded t xs s + turn
 -- ---- named, or cleared
 -- the call, made on table t, answers task x, who waited on mailbox k: a send and a revocation answer one waiter, and a release four
 pub data Names (t : Table) (k : ℕ) (x : TaskId) : Call → Type 0 where
-  by-send : {c : CapId} {m : Message} → answer t (send c m) ≡ sent (Sent (waiting x)) → Names t k x (send c m)
+  by-send : {c : CapId} {p : Payload} {row : ℕ} → answer t (send c p row) ≡ sent (Sent (waiting x)) → Names t k x (send c p row)
   by-revocation : {c : CapId} → answer t (revoke c) ≡ revoked (Revoked (waiting x)) → Names t k x (revoke c)
   by-release :
       {s₁ s₂ s₃ s₄ : Slot} (ws : List Waiter) → answer t (release s₁ s₂ s₃ s₄) ≡ released Released ws →

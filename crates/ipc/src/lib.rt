@@ -30,8 +30,8 @@ use ipc_rules::answers::RevokeAnswer;
 use ipc_rules::answers::Revoking;
 use ipc_rules::answers::SendAnswer;
 use ipc_rules::answers::Sending;
-use ipc_rules::state::Message;
 use ipc_rules::state::NOBODY;
+use ipc_rules::state::Payload;
 use ipc_rules::state::Table;
 use ipc_rules::state::TaskId;
 
@@ -61,9 +61,9 @@ pub fn create_channel_ephemeral(t: Table) -> Creation
     ipc_life::inner::create(t, true)
 }
 
-// Queues a message and answers the task to wake.
-pub fn send(t: Table, cap: CapId, msg: Message) -> Sending
-    ensures { λ r. ⌜ r ≡ sendCall t cap msg ⌝ }
+// Queues what a sender hands in, stamped with its row, and answers the task to wake.
+pub fn send(t: Table, cap: CapId, payload: Payload, row: usize) -> Sending
+    ensures { λ r. ⌜ r ≡ sendCall t cap payload row ⌝ }
 {
     if !ipc_sound::sound(t) {
         return Sending {
@@ -71,7 +71,7 @@ pub fn send(t: Table, cap: CapId, msg: Message) -> Sending
             table: t,
         };
     }
-    ipc_queue::inner::send(t, cap, msg)
+    ipc_queue::inner::send(t, cap, payload, row)
 }
 
 // Takes the oldest message.

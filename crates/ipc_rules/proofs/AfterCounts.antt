@@ -1,5 +1,6 @@
 -- The counts: each call raises the one that its answer's number has, and a note call or a refusal leaves all else as it was. Assumes nothing.
 use mathlib.Core.Path.{_≡_, refl}
+use Prim.Native.Nat.{ℕ}
 use Rattle.laws.specs.Pick.{pick}
 use Rattle.laws.specs.Refusals as no
 use Rattle.cap.specs.declared.CapId.{CapId}
@@ -10,7 +11,7 @@ use Rattle.ipc_rules.specs.Send.{sendOf}
 use Rattle.ipc_rules.specs.Receive.{recvOf, parkOf}
 use Rattle.ipc_rules.specs.Revoke.{revokeOf}
 use Rattle.ipc_rules.specs.Views.{countsBy, OnlyCounts}
-use Rattle.ipc_rules.specs.declared.state.Message.{Message}
+use Rattle.ipc_rules.specs.declared.state.Payload.{Payload}
 use Rattle.ipc_rules.specs.declared.state.TaskId.{TaskId}
 use Rattle.ipc_rules.specs.declared.state.Table.{Table}
 use Rattle.ipc_rules.specs.declared.answers.Sending.{Sending}
@@ -51,14 +52,15 @@ module _ (t : Table) where
 
 -- ---- by answer
 module _ (t : Table) (σ : Sound t) where
-  pub send-counts : (c : CapId) (m : Message) → sendOf t c m .table .counters .refusals ≡ countsBy (sendNumber (sendOf t c m .answer)) (t .counters .refusals)
+  pub send-counts : (c : CapId) (p : Payload) (row : ℕ) → sendOf t c p row .table .counters .refusals ≡ countsBy (sendNumber (sendOf t c p row .answer)) (t .counters .refusals)
   unfolding countsBy pick
-  send-counts c m = by (send.send-ways t c m σ)
+  send-counts c p row = by (send.send-ways t c p row σ)
     where
-      by : {r : Sending} → send.SendWays t c m r → r .table .counters .refusals ≡ countsBy (sendNumber (r .answer)) (t .counters .refusals)
-      by (send.bad-cap _ q) = rw q
-      by (send.full _ _ _ q) = rw q
-      by (send.sent _ x) = rw (x .answer) (x .rest .counts)
+      by : {r : Sending} → send.SendWays t c p row r → r .table .counters .refusals ≡ countsBy (sendNumber (r .answer)) (t .counters .refusals)
+      by (send.bad-row _ q) = rw q
+      by (send.bad-cap _ _ q) = rw q
+      by (send.full _ _ _ _ q) = rw q
+      by (send.sent _ _ x) = rw (x .answer) (x .rest .counts)
 
   pub recv-counts : (c : CapId) → recvOf t c .table .counters .refusals ≡ countsBy (recvNumber (recvOf t c .answer)) (t .counters .refusals)
   unfolding countsBy pick

@@ -39,6 +39,7 @@ create-few create.the-variants.BadTable = lit≤ tt
 
 pub send-few : (a : send.SendAnswer) → Few (sendValues a)
 send-few (send.the-variants.Sent w) = three-few w
+send-few send.the-variants.BadRow = lit≤ tt
 send-few send.the-variants.BadCap = lit≤ tt
 send-few send.the-variants.Full = lit≤ tt
 send-few send.the-variants.BadTable = lit≤ tt

@@ -12,14 +12,14 @@ use Rattle.cap.specs.Rights.{sendRight, receiveRight}
 use Rattle.cap.specs.declared.CapId.{CapId}
 use Rattle.cap.specs.declared.slot.Slot.{Slot}
 use Rattle.ring.proofs.Rings.{room, put-in-is, taken-out-is}
-use Rattle.ipc_rules.specs.State.{nobody, mailboxAt, mailboxLive, withWaiter}
+use Rattle.ipc_rules.specs.State.{nobody, stamped, mailboxAt, mailboxLive, withWaiter}
 use Rattle.ipc_rules.specs.Sound.{Sound}
 use Rattle.ipc_rules.specs.Counts.{raised}
 use Rattle.ipc_rules.specs.Send.{sendOf, filled}
 use Rattle.ipc_rules.specs.Receive.{recvOf, parkOf, drained, takenFrom}
 use Rattle.ipc_rules.specs.Holds.{registered, registeredAll, released, releasedAll, more, fewer, reaps, Freed}
 use Rattle.ipc_rules.specs.declared.state.Mailbox.{Mailbox}
-use Rattle.ipc_rules.specs.declared.state.Message.{Message}
+use Rattle.ipc_rules.specs.declared.state.Payload.{Payload}
 use Rattle.ipc_rules.specs.declared.state.TaskId.{TaskId}
 use Rattle.ipc_rules.specs.declared.state.Table.{Table}
 use Rattle.ipc_rules.specs.declared.answers.Sending.{Sending}
@@ -61,14 +61,15 @@ uncancelled true n h e = some n (eqb-false n 0 h)
 uncancelled false n h e = absurd (not-both false e refl)
 
 -- ---- the calls
-pub send-kept : (t : Table) (c : CapId) (m : Message) → Sound t → Sound (sendOf t c m .table)
+pub send-kept : (t : Table) (c : CapId) (p : Payload) (row : ℕ) → Sound t → Sound (sendOf t c p row .table)
 unfolding sendOf
-send-kept t c m s =
+send-kept t c p row s =
+    all-pick (λ (r : Sending). Sound (r .table)) _ _ _ (λ _. s) (λ _.
     all-opened (λ (r : Sending). Sound (r .table)) _ _ _ (λ _. counts-kept t _ s) (λ k o.
     all-pick (λ (r : Sending). Sound (r .table)) _ _ _ (λ _. counts-kept t _ s) (λ h.
     let l = opens-live t c sendRight k s o in
     let f = fits t k s l in
-    message-kept _ k (mailboxAt t k .ring .head) m (mailbox-kept t k _ s l (filled-fits _ _ (eqb-false _ _ h) f)) (ap (λ (b : Mailbox). b .live) (box-same t k _ s l) ∙ l) (f .ring .head)))
+    message-kept _ k (mailboxAt t k .ring .head) (stamped p row) (mailbox-kept t k _ s l (filled-fits _ _ (eqb-false _ _ h) f)) (ap (λ (b : Mailbox). b .live) (box-same t k _ s l) ∙ l) (f .ring .head))))
 
 pub taken-kept : (t : Table) (k : ℕ) → Sound t → mailboxLive t k ≡ true → 0 < mailboxAt t k .ring .len → Sound (takenFrom t k)
 taken-kept t k s l some = mailbox-kept t k _ s l (drained-fits _ _ some (fits t k s l))

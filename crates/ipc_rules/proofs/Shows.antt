@@ -2,11 +2,10 @@
 use mathlib.Core.Path.{_≡_, refl}
 use mathlib.Core.List.{[]}
 use Prim.Native.Nat.{ℕ}
-use Rattle.ipc_rules.specs.Answers.{createValues, sendValues, queuedValues, holdersValues, revokeValues}
+use Rattle.ipc_rules.specs.Answers.{createValues, queuedValues, holdersValues, revokeValues}
 use Rattle.ipc_rules.specs.declared.state.Channel.{Channel}
 use Rattle.ipc_rules.specs.declared.state.Waiter.{Waiter}
 use Rattle.ipc_rules.specs.declared.answers.CreateAnswer as create
-use Rattle.ipc_rules.specs.declared.answers.SendAnswer as send
 use Rattle.ipc_rules.specs.declared.answers.QueuedAnswer as queued
 use Rattle.ipc_rules.specs.declared.answers.HoldersAnswer as holders
 use Rattle.ipc_rules.specs.declared.answers.RevokeAnswer as revoke
@@ -16,12 +15,6 @@ create-none (create.the-variants.Created x) h = absurd (h x refl)
 create-none create.the-variants.NoMailbox h = refl
 create-none create.the-variants.NoEndpoint h = refl
 create-none create.the-variants.BadTable h = refl
-
-pub send-none : (a : send.SendAnswer) → ((x : Waiter) → a ≡ send.the-variants.Sent x → ⊥) → sendValues a ≡ []
-send-none (send.the-variants.Sent x) h = absurd (h x refl)
-send-none send.the-variants.BadCap h = refl
-send-none send.the-variants.Full h = refl
-send-none send.the-variants.BadTable h = refl
 
 pub queued-none : (a : queued.QueuedAnswer) → ((x : ℕ) → a ≡ queued.the-variants.Queued x → ⊥) → queuedValues a ≡ []
 queued-none (queued.the-variants.Queued x) h = absurd (h x refl)

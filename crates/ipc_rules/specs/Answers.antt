@@ -22,8 +22,9 @@ use Rattle.ipc_rules.specs.declared.answers.NoteAnswer as note
 use Rattle.ipc_rules.specs.declared.answers.RefusalsAnswer as counts
 
 -- ---- values that several answers show
+-- tag, a, b, and the sending row last
 abbrev pub messageValues : Message → List ℕ
-messageValues m = m .tag ∷ m .a ∷ m .b ∷ []
+messageValues m = m .tag ∷ m .a ∷ m .b ∷ m .row ∷ []
 
 -- `0`, or `1 slot epoch`
 unfoldable pub waiterValues : Waiter → List ℕ
@@ -55,12 +56,14 @@ createValues create.the-variants.BadTable = []
 
 abbrev pub sendNumber : send.SendAnswer → ℕ
 sendNumber (send.the-variants.Sent w) = no.none
+sendNumber send.the-variants.BadRow = no.badRow
 sendNumber send.the-variants.BadCap = no.badCap
 sendNumber send.the-variants.Full = no.full
 sendNumber send.the-variants.BadTable = no.badTable
 
 abbrev pub sendValues : send.SendAnswer → List ℕ
 sendValues (send.the-variants.Sent w) = waiterValues w
+sendValues send.the-variants.BadRow = []
 sendValues send.the-variants.BadCap = []
 sendValues send.the-variants.Full = []
 sendValues send.the-variants.BadTable = []
@@ -85,7 +88,7 @@ parkNumber park.the-variants.Busy = no.busy
 parkNumber park.the-variants.Cancelled = no.cancelled
 parkNumber park.the-variants.BadTable = no.badTable
 
--- `0`, or `1 tag a b`
+-- `0`, or `1 tag a b row`
 abbrev pub parkValues : park.ParkAnswer → List ℕ
 parkValues park.the-variants.Parked = 0 ∷ []
 parkValues (park.the-variants.Given m) = 1 ∷ messageValues m

@@ -9,6 +9,7 @@ use Rattle.cap.specs.Rights.{noRights}
 use Rattle.cap.specs.declared.CapRights.{CapRights}
 use Rattle.ring.specs.Ring.{freshRing}
 use Rattle.ring.specs.declared.Ring.{Ring}
+use Rattle.ipc_rules.specs.declared.state.Payload.{Payload}
 use Rattle.ipc_rules.specs.declared.state.Message.{Message}
 use Rattle.ipc_rules.specs.declared.state.TaskId.{TaskId}
 use Rattle.ipc_rules.specs.declared.state.Waiter.{Waiter}
@@ -21,7 +22,7 @@ use Rattle.ipc_rules.specs.declared.state.Table.{Table}
 
 -- ---- the parts as when fresh
 abbrev pub freshMessage : Message
-freshMessage = record { tag = 0; a = 0; b = 0 }
+freshMessage = record { tag = 0; row = 0; a = 0; b = 0 }
 
 abbrev pub nobody : Waiter
 nobody = record { present = false; task = record { slot = 0; epoch = 0 } }
@@ -84,6 +85,10 @@ nextOf t = t .counters .«next_gen»
 
 abbrev pub countsOf : Table → Refusals
 countsOf t = t .counters .refusals
+
+-- ---- a message as a send makes it: what the sender handed in, and the sending row, which the kernel sets
+abbrev pub stamped : Payload → ℕ → Message
+stamped p row = record { tag = p .tag; row = row; a = p .a; b = p .b }
 
 -- ---- an endpoint as creation makes it, and as revocation leaves it: dead, with its generation, its rights and its mailbox
 abbrev pub newEndpoint : ℕ → CapRights → ℕ → Endpoint

@@ -29,6 +29,8 @@ pub struct Creation {
 
 pub enum SendAnswer {
     Sent(Waiter),
+    // the sending row is from 54 up
+    BadRow,
     BadCap,
     Full,
     BadTable,

@@ -46,6 +46,7 @@ impl SendAnswer {
     {
         match self {
             SendAnswer::Sent(_) => refusals::NONE,
+            SendAnswer::BadRow => refusals::BAD_ROW,
             SendAnswer::BadCap => refusals::BAD_CAP,
             SendAnswer::Full => refusals::FULL,
             SendAnswer::BadTable => refusals::BAD_TABLE,

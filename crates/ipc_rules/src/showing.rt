@@ -1,7 +1,7 @@
 // What a line shows of each answer: its number and its values. A refusal shows none.
 //
-// Receive and park name each of their refusals for the optimiser's sake: from `self.number()` it goes on to copy all tables at the start of
-// every operation (docs/PERFORMANCE.md).
+// Send, receive and park name each of their refusals for the optimiser's sake: from `self.number()` it goes on to copy all tables at the
+// start of every operation (docs/PERFORMANCE.md).
 ghost use mathlib.Core.Path.{_≡_};
 ghost use mathlib.Core.List.{_∷_};
 ghost use Rattle.laws.specs.Refusals.{none};
@@ -68,13 +68,13 @@ fn channel_shown(c: Channel) -> Shown
 fn message_shown(m: Message) -> Shown
     ensures { λ r. ⌜ r ≡ shown none (messageValues m) ⌝ }
 {
-    shown::three(refusals::NONE, m.tag as u64, m.a, m.b)
+    shown::four(refusals::NONE, m.tag as u64, m.a, m.b, m.row as u64)
 }
 
 fn given_shown(m: Message) -> Shown
     ensures { λ r. ⌜ r ≡ shown none (1 ∷ messageValues m) ⌝ }
 {
-    shown::four(refusals::NONE, 1, m.tag as u64, m.a, m.b)
+    shown::five(refusals::NONE, 1, m.tag as u64, m.a, m.b, m.row as u64)
 }
 
 // ---- by call
@@ -101,10 +101,13 @@ impl SendAnswer {
     pub fn shown(self) -> Shown
         ensures { λ r. ⌜ r ≡ shown (sendNumber self) (sendValues self) ⌝ }
     {
-        let SendAnswer::Sent(w) = self else {
-            return shown::none(self.number());
-        };
-        waiter_shown(w)
+        match self {
+            SendAnswer::Sent(w) => waiter_shown(w),
+            SendAnswer::BadRow => shown::none(refusals::BAD_ROW),
+            SendAnswer::BadCap => shown::none(refusals::BAD_CAP),
+            SendAnswer::Full => shown::none(refusals::FULL),
+            SendAnswer::BadTable => shown::none(refusals::BAD_TABLE),
+        }
     }
 }
 

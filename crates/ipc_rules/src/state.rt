@@ -12,8 +12,18 @@ pub const MAX_ENDPOINTS: usize = 64;
 
 pub const MAX_DEPTH: usize = 8;
 
+// What a sender hands in.
+pub struct Payload {
+    pub tag: u32,
+    pub a: u64,
+    pub b: u64,
+}
+
+// What stands in a ring and is given out: that, stamped with the sending row. The stamp is the last of its parts; it stands beside the
+// tag so that a message stays at 24 bytes.
 pub struct Message {
     pub tag: u32,
+    pub row: u8,
     pub a: u64,
     pub b: u64,
 }
@@ -102,7 +112,12 @@ pub const NOBODY: Waiter = Waiter {
     task: TaskId { slot: 0, epoch: 0 },
 };
 
-pub const FRESH_MESSAGE: Message = Message { tag: 0, a: 0, b: 0 };
+pub const FRESH_MESSAGE: Message = Message {
+    tag: 0,
+    row: 0,
+    a: 0,
+    b: 0,
+};
 
 pub const FRESH_ENDPOINT: Endpoint = Endpoint {
     live: false,

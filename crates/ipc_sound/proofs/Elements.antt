@@ -20,8 +20,13 @@ use Rattle.laws.proofs.Bools.{and-three, and-four, or-cases}
 -- ---- as when fresh
 pub fresh-message : (m : Message) → isFreshMessage m ≡ true → m ≡ freshMessage
 fresh-message m h =
-    let p = and-three (eqb (m .tag) 0) (eqb (m .a) 0) (eqb (m .b) 0) h in
-    λ i. record { tag = eqb-true (m .tag) 0 (p .0) i; a = eqb-true (m .a) 0 (p .1) i; b = eqb-true (m .b) 0 (p .2) i }
+    let p = and-four (eqb (m .tag) 0) (eqb (m .a) 0) (eqb (m .b) 0) (eqb (m .row) 0) h in
+    λ i. record {
+      tag = eqb-true (m .tag) 0 (p .0) i;
+      row = eqb-true (m .row) 0 (p .3) i;
+      a = eqb-true (m .a) 0 (p .1) i;
+      b = eqb-true (m .b) 0 (p .2) i;
+    }
 
 pub fresh-endpoint : (e : Endpoint) → isFreshEndpoint e ≡ true → e ≡ freshEndpoint
 fresh-endpoint e h =

@@ -14,7 +14,7 @@ use Rattle.ipc_rules.specs.Observe.{queuedOf, holdersOf, refusalsOf}
 use Rattle.ipc_rules.specs.Holds.{registerOf, releaseOf, fourOf}
 use Rattle.ipc_rules.specs.Revoke.{revokeOf}
 use Rattle.ipc_rules.specs.Waiters.{clearOf}
-use Rattle.ipc_rules.specs.declared.state.Message.{Message}
+use Rattle.ipc_rules.specs.declared.state.Payload.{Payload}
 use Rattle.ipc_rules.specs.declared.state.TaskId.{TaskId}
 use Rattle.ipc_rules.specs.declared.state.Table.{Table}
 use Rattle.ipc_rules.specs.declared.answers.Creation.{Creation}
@@ -46,8 +46,8 @@ guarded t refused rule = pick (soundTest t) rule refused
 abbrev pub createCall : Table → Bool → Creation
 createCall t ephemeral = guarded t (record { answer = create.the-variants.BadTable; table = t }) (createOf t ephemeral)
 
-abbrev pub sendCall : Table → CapId → Message → Sending
-sendCall t c m = guarded t (record { answer = send.the-variants.BadTable; table = t }) (sendOf t c m)
+abbrev pub sendCall : Table → CapId → Payload → ℕ → Sending
+sendCall t c p row = guarded t (record { answer = send.the-variants.BadTable; table = t }) (sendOf t c p row)
 
 abbrev pub recvCall : Table → CapId → Receiving
 recvCall t c = guarded t (record { answer = recv.the-variants.BadTable; table = t }) (recvOf t c)

@@ -21,7 +21,7 @@ use Rattle.ipc_rules.specs.declared.state.Table.{Table}
 
 -- ---- as when fresh
 abbrev pub isFreshMessage : Message → Bool
-isFreshMessage m = eqb (m .tag) 0 && eqb (m .a) 0 && eqb (m .b) 0
+isFreshMessage m = eqb (m .tag) 0 && eqb (m .a) 0 && eqb (m .b) 0 && eqb (m .row) 0
 
 abbrev pub isFreshEndpoint : Endpoint → Bool
 isFreshEndpoint e = not (endLives e) && eqb (e .generation) 0 && eqb (e .rights .bits) 0 && eqb (e .mailbox) 0

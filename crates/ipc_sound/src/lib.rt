@@ -33,7 +33,7 @@ pub fn in_range(z: Sizes) -> bool
 fn place_test(m: Message, live: bool, p: usize, d: usize) -> bool
     ensures { λ r. ⌜ r ≡ placeTest m live p d ⌝ }
 {
-    ((m.tag == 0) & (m.a == 0) & (m.b == 0)) | (live & (p < d))
+    ((m.tag == 0) & (m.a == 0) & (m.b == 0) & (m.row == 0)) | (live & (p < d))
 }
 
 fn places_ok(t: Table) -> bool

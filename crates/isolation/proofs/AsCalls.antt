@@ -106,8 +106,8 @@ module _ (v : world.World) (reached : world.Reached v) where
     unfolding callsOf after slotCalls slotSendOf slotRecvOf slotParkOf calls.after
     call-run (openFor tag x) = rw (serves (w .dispatcher) t (κ .ready)) (opens-run tag x)
     call-run (close p) = rw (serves (w .dispatcher) t (κ .ready)) (closes-run p)
-    call-run (send r s m) =
-        rw (serves (w .dispatcher) t (κ .ready)) (by-slot t e (getOf (w .rows) r s) (λ c. calls.send c m) (λ (o : SlotSending). o .channels) _ _ _ (λ _ _. refl) (λ _. refl) (λ _. refl))
+    call-run (send r s x) =
+        rw (serves (w .dispatcher) t (κ .ready)) (by-slot t e (getOf (w .rows) r s) (λ c. calls.send c x r) (λ (o : SlotSending). o .channels) _ _ _ (λ _ _. refl) (λ _. refl) (λ _. refl))
     call-run (receive r s) =
         rw (serves (w .dispatcher) t (κ .ready)) (by-slot t e (getOf (w .rows) r s) (λ c. calls.receive c) (λ (o : SlotReceiving). o .channels) _ _ _ (λ _ _. refl) (λ _. refl) (λ _. refl))
     call-run (park r s task) =

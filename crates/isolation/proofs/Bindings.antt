@@ -41,7 +41,7 @@ module _ (w : Desk) where
       guarded-ways (λ (o : JobClosing). SameBindings w (closed o)) (w .dispatcher) (w .channels) _ _ same
       (close-ways (w .dispatcher) (w .rows) (w .channels) (λ (o : JobClosing). SameBindings w (closed o)) p same
       (λ _ _. record { count = refl; variants = refl }))
-  stays (send r s m) =
+  stays (send r s x) =
       guarded-ways (λ (o : SlotSending). SameBindings w (sent o)) (w .dispatcher) (w .channels) _ _ same
       (all-slotted (λ (o : SlotSending). SameBindings w (sent o)) _ _ _ _ (λ _ _ _. same) (λ _ _. same) (λ _ _. record { count = refl; variants = refl }))
   stays (receive r s) =

@@ -16,6 +16,7 @@ use Rattle.cap.specs.Rights.{sendRight, receiveRight}
 use Rattle.cap.specs.Slot.{holding}
 use Rattle.cap.specs.declared.CapId.{CapId}
 use Rattle.capslots.specs.Table.{slotIn}
+use Rattle.ipc_rules.specs.State.{stamped}
 use Rattle.ipc_rules.specs.Sound.{Sound}
 use Rattle.ipc_rules.specs.Opening.{openingOf}
 use Rattle.ipc_rules.specs.Create.{createOf}
@@ -24,11 +25,12 @@ use Rattle.ipc_rules.specs.Receive.{recvOf, parkOf}
 use Rattle.ipc_rules.specs.Views.{queueOf, Steady, OnlyCounts}
 use Rattle.ipc_rules.specs.declared.opening.Opening.the-variants.{Opens}
 use Rattle.ipc_rules.specs.declared.state.Message.{Message}
+use Rattle.ipc_rules.specs.declared.state.Payload.{Payload}
 use Rattle.ipc_rules.specs.declared.state.TaskId.{TaskId}
 use Rattle.ipc_rules.specs.declared.state.Table.{Table as Channels}
 use Rattle.ipc_rules.specs.declared.answers.Sending.{Sending}
 use Rattle.ipc_rules.specs.declared.answers.SendAnswer as sending
-use Rattle.ipc_rules.proofs.AfterSend.{Sends, SendWays, bad-cap, full, sent, send-ways}
+use Rattle.ipc_rules.proofs.AfterSend.{Sends, SendWays, bad-row, bad-cap, full, sent, send-ways}
 use Rattle.ipc_rules.proofs.AfterReceive as recv
 use Rattle.ipc_rules.proofs.AfterPark as park
 use Rattle.ipc_rules.proofs.Changes.{counts-anew, alike-same, steady-same}
@@ -131,27 +133,31 @@ module _ (w : Desk) (κ : Kept w) (p k : ℕ) (mine : OpenIn w p) (opens : openi
 
   module _ (r s : ℕ) where
     -- ---- a sending
-    module _ (m : Message) where
+    module _ (x : Payload) where
+      abbrev m : Message
+      m = stamped x r
+
       abbrev into : send.SlotSendAnswer → List Message
       into a = pick (slotHolds w r s (jobIn w p .ends .send)) (ifAccepted a m) []
 
       -- refused, it leaves the queue
       unsent : (a : send.SlotSendAnswer) (u : Channels) → ifAccepted a m ≡ [] → OnlyCounts t u → Flows w p k (withChannels w u) [] (into a)
-      unsent a u e x = rw (e, pick-same (slotHolds w r s (jobIn w p .ends .send))) (idle (withChannels w u) refl (x .steady .opening _ _ ∙ opens) (x .mailboxes k .queue))
+      unsent a u e y = rw (e, pick-same (slotHolds w r s (jobIn w p .ends .send))) (idle (withChannels w u) refl (y .steady .opening _ _ ∙ opens) (y .mailboxes k .queue))
 
-      sent-by : (c : CapId) → slotIn (w .rows) r s ≡ holding c → SendWays t c m (sendOf t c m) →
-          Flows w p k (withChannels w (sendOf t c m .table)) [] (into (send.the-variants.Answered (sendOf t c m .answer)))
+      sent-by : (c : CapId) → slotIn (w .rows) r s ≡ holding c → SendWays t c x r (sendOf t c x r) →
+          Flows w p k (withChannels w (sendOf t c x r .table)) [] (into (send.the-variants.Answered (sendOf t c x r .answer)))
       unfolding ifAccepted ifSent
-      sent-by c h (bad-cap _ q) = rw q (unsent (send.the-variants.Answered sending.the-variants.BadCap) _ refl (counts-anew t _))
-      sent-by c h (full _ _ _ q) = rw q (unsent (send.the-variants.Answered sending.the-variants.Full) _ refl (counts-anew t _))
-      sent-by c h (sent a x) = rw (x .answer, holds-send w κ r s c h (a .box) p k mine opens (a .opens)) (puts (a .box) m _ x)
+      sent-by c h (bad-row _ q) = rw q (unsent (send.the-variants.Answered sending.the-variants.BadRow) _ refl (none-anew t))
+      sent-by c h (bad-cap _ _ q) = rw q (unsent (send.the-variants.Answered sending.the-variants.BadCap) _ refl (counts-anew t _))
+      sent-by c h (full _ _ _ _ q) = rw q (unsent (send.the-variants.Answered sending.the-variants.Full) _ refl (counts-anew t _))
+      sent-by c h (sent _ a y) = rw (y .answer, holds-send w κ r s c h (a .box) p k mine opens (a .opens)) (puts (a .box) m _ y)
 
-      pub send-flows : let o = slotSendOf (w .dispatcher) (w .rows) t r s m in Flows w p k (sentDesk o) [] (into (o .answer))
+      pub send-flows : let o = slotSendOf (w .dispatcher) (w .rows) t r s x in Flows w p k (sentDesk o) [] (into (o .answer))
       unfolding slotSendOf ifAccepted
       send-flows =
           all-slotted (λ (o : SlotSending). Flows w p k (sentDesk o) [] (into (o .answer))) _ _ _ _
           (λ i n _. unsent (send.the-variants.OutOfRange i n) t refl (none-anew t)) (λ i _. unsent (send.the-variants.Vacant i) t refl (none-anew t))
-          (λ c e. sent-by c (get-names (w .rows) r s c e) (send-ways t c m σ))
+          (λ c e. sent-by c (get-names (w .rows) r s c e) (send-ways t c x r σ))
 
     -- ---- a receiving
     abbrev out : List Message → List Message
@@ -199,6 +205,6 @@ module _ (w : Desk) (κ : Kept w) (p k : ℕ) (mine : OpenIn w p) (opens : openi
   unfolding after handed accepted closes
   call-flows (openFor tag x) e = rw (serves (w .dispatcher) t (κ .ready)) (open-flows tag x)
   call-flows (close i) e = rw (serves (w .dispatcher) t (κ .ready)) (close-flows i (eqb-false i p e))
-  call-flows (send r s m) e = rw (serves (w .dispatcher) t (κ .ready)) (send-flows r s m)
+  call-flows (send r s x) e = rw (serves (w .dispatcher) t (κ .ready)) (send-flows r s x)
   call-flows (receive r s) e = rw (serves (w .dispatcher) t (κ .ready)) (receive-flows r s)
   call-flows (park r s task) e = rw (serves (w .dispatcher) t (κ .ready)) (park-flows r s task)

@@ -1,7 +1,7 @@
 -- The customer's sentence: a message is handed out only to the row that its job's tag is bound to. Assumes nothing.
 use mathlib.Core.Path.{_≡_, refl, sym, ap, subst, _∙_}
 use mathlib.Core.Bool.{Bool, true, false}
-use mathlib.Core.List.{List, [], _∷_, _++_}
+use mathlib.Core.List.{List, [], _∷_, _++_, List·Memᴰ, List·Memᴰ·head, Memᴰ·append-right}
 use Prim.Native.Nat.{ℕ}
 use native.Mathlib.Omega.{arith}
 use borrow.Author.Tests.{eqb-true}
@@ -46,6 +46,7 @@ use Rattle.isolation.proofs.Reaches.{serves, start-kept, after-kept, ru
 use Rattle.isolation.proofs.Bindings.{bound-first}
 use Rattle.isolation.proofs.Slots.{get-names, names-itself}
 use Rattle.isolation.proofs.Whose.{ReceivesFor, receives-for}
+use Rattle.isolation.proofs.Written.{all-written}
 
 -- slot s of row r holds an id that opens a mailbox for receive, where m is the oldest
 pub record Hands (w : Desk) (r s : ℕ) (m : Message) : Type 0 where
@@ -138,6 +139,19 @@ module _ (w : Desk) (κ₀ : Kept w) (free : (p : ℕ) → jobIn w p .«open» �
   waits : queueOf (run (since job) (job .later) .channels) (began .box) ≡ m ∷ h .rest
   waits = ap (λ (x : Desk). queueOf (x .channels) (began .box)) (sym comes) ∙ ap (queueOf (v .channels)) (sym its-box) ∙ h .queue
 
+  next : allAccepted (since job) p (job .later) ≡ allHanded (since job) p (job .later) ++ (m ∷ h .rest)
+  next =
+      sym (ap (λ (l : List Message). l ++ allAccepted (since job) p (job .later)) (began .empty))
+      ∙ sym (flowed .order)
+      ∙ ap (λ (l : List Message). allHanded (since job) p (job .later) ++ l) waits
+
+  -- the id that it was accepted by stands in the extractor's row
+  written : m .row ≡ job .extractor
+  written =
+      all-written (since job) (after-kept (run w (job .earlier)) κ₁ (openFor (job .tag) (job .extractor))) p
+      (rw (began .job)) (job .extractor) (began .slot) (rw (began .job) (began .sender)) (job .unclosed) m
+      (subst (List·Memᴰ m) (sym next) (Memᴰ·append-right (allHanded (since job) p (job .later)) (List·Memᴰ·head refl)))
+
   from-it : (call : JobCall) → handed v p call ≡ m ∷ [] → FromItsJob w cs call r m
   from-it call e =
       record {
@@ -146,10 +160,8 @@ module _ (w : Desk) (κ₀ : Kept w) (free : (p : ℕ) → jobIn w p .«open» �
         bound = bound-first w cs (job .tag) r (subst (λ (g : Tag). BoundTo (v .dispatcher) g r) (ap (λ (j : Job). j .tag) (job .stands)) (whose .bound));
         from = e;
         rest = h .rest;
-        next =
-            sym (ap (λ (l : List Message). l ++ allAccepted (since job) p (job .later)) (began .empty))
-            ∙ sym (flowed .order)
-            ∙ ap (λ (l : List Message). allHanded (since job) p (job .later) ++ l) waits;
+        next = next;
+        writer = written;
       }
 
 -- ---- the theorem

@@ -3,7 +3,7 @@ use mathlib.Core.Path.{_≡_, refl, sym, _∙_}
 use Prim.Native.Nat.{ℕ}
 use Rattle.cap.specs.declared.CapId.{CapId}
 use Rattle.ipc_rules.specs.Sound.{Sound}
-use Rattle.ipc_rules.specs.declared.state.Message.{Message}
+use Rattle.ipc_rules.specs.declared.state.Payload.{Payload}
 use Rattle.ipc_rules.specs.declared.state.TaskId.{TaskId}
 use Rattle.ipc_rules.specs.declared.state.Table.{Table as Channels}
 use Rattle.ipc_rules.proofs.KeepsCalls.{send-kept, recv-kept, park-kept}
@@ -68,10 +68,10 @@ module _ (w : Desk) (κ : Kept w) (r s : ℕ) where
   abbrev σ : Sound t
   σ = κ .ready .sound
 
-  pub send-keeps : (m : Message) → Kept (sent (slotSendOf (w .dispatcher) (w .rows) t r s m))
+  pub send-keeps : (x : Payload) → Kept (sent (slotSendOf (w .dispatcher) (w .rows) t r s x))
   unfolding slotSendOf
-  send-keeps m =
-      all-slotted (λ (o : SlotSending). Kept (sent o)) _ _ _ _ (λ _ _ _. κ) (λ _ _. κ) (λ c _. kept-still w κ _ (send-kept t c m σ) (send-still t c σ m))
+  send-keeps x =
+      all-slotted (λ (o : SlotSending). Kept (sent o)) _ _ _ _ (λ _ _ _. κ) (λ _ _. κ) (λ c _. kept-still w κ _ (send-kept t c x r σ) (send-still t c σ x r))
 
   pub receive-keeps : Kept (received (slotRecvOf (w .dispatcher) (w .rows) t r s))
   unfolding slotRecvOf

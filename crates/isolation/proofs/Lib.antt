@@ -14,6 +14,7 @@ pub mod Flows
 pub mod Along
 pub mod Opened
 pub mod Bindings
+pub mod Written
 pub mod Isolation
 pub mod Own
 pub mod Closing

@@ -20,7 +20,7 @@ use Rattle.ipc_rules.specs.Create.{createOf}
 use Rattle.ipc_rules.specs.Views.{queueOf}
 use Rattle.ipc_rules.specs.declared.opening.Opening.the-variants.{Opens}
 use Rattle.ipc_rules.specs.declared.state.Channel.{Channel}
-use Rattle.ipc_rules.specs.declared.state.Message.{Message}
+use Rattle.ipc_rules.specs.declared.state.Payload.{Payload}
 use Rattle.ipc_rules.specs.declared.state.TaskId.{TaskId}
 use Rattle.dispatcher_rules.specs.Answers.{openNumber}
 use Rattle.dispatcher_rules.specs.State.{jobAt, rowOf, noJob, openJob}
@@ -98,9 +98,9 @@ module _ (w : Desk) (κ : Kept w) (p : ℕ) where
       ⊎-elim (λ e. absurd (not-both _ (rw e at o) closed-free)) (λ n. before (was-open i n o) (ne-eqb i p n)) (same? i p)
 
   -- messages by row and slot leave the dispatcher
-  stays : (r s : ℕ) (m : Message) → slotSendOf (w .dispatcher) (w .rows) (w .channels) r s m .dispatcher ≡ w .dispatcher
+  stays : (r s : ℕ) (x : Payload) → slotSendOf (w .dispatcher) (w .rows) (w .channels) r s x .dispatcher ≡ w .dispatcher
   unfolding slotSendOf
-  stays r s m = all-slotted (λ (o : SlotSending). o .dispatcher ≡ w .dispatcher) _ _ _ _ (λ _ _ _. refl) (λ _ _. refl) (λ _ _. refl)
+  stays r s x = all-slotted (λ (o : SlotSending). o .dispatcher ≡ w .dispatcher) _ _ _ _ (λ _ _ _. refl) (λ _ _. refl) (λ _ _. refl)
 
   stays-receiving : (r s : ℕ) → slotRecvOf (w .dispatcher) (w .rows) (w .channels) r s .dispatcher ≡ w .dispatcher
   unfolding slotRecvOf
@@ -114,7 +114,7 @@ module _ (w : Desk) (κ : Kept w) (p : ℕ) where
   unfolding after closes
   since-call (openFor tag x) o = opens-or-stays tag x o
   since-call (close i) o = closes-or-stays i o
-  since-call (send r s m) o = before (rw (serves (w .dispatcher) (w .channels) (κ .ready), stays r s m) at o) refl
+  since-call (send r s x) o = before (rw (serves (w .dispatcher) (w .channels) (κ .ready), stays r s x) at o) refl
   since-call (receive r s) o = before (rw (serves (w .dispatcher) (w .channels) (κ .ready), stays-receiving r s) at o) refl
   since-call (park r s task) o = before (rw (serves (w .dispatcher) (w .channels) (κ .ready), stays-parking r s task) at o) refl
 
@@ -176,11 +176,11 @@ module _ (w : Desk) (κ : Kept w) (p : ℕ) (mine : OpenIn w p) (r s : ℕ) (h :
       (λ e. ne (sym (κ .apart p i mine o (b .box) (ap (λ (c : CapId). openingOf (w .channels) c sendRight) e ∙ b .channel .sends) (b .channel .sends))))
       (unlike (w .channels) _ _ sendRight _ (a .channel .sends) (b .channel .receives-only)))
 
-  slot-stays : (c : JobCall) → closes p c ≡ false → Stays (after w c .rows)
+  pub slot-stays : (c : JobCall) → closes p c ≡ false → slotIn (after w c .rows) r s ≡ holding (jobIn w p .ends .send)
   unfolding after closes Stays slotSendOf slotRecvOf slotParkOf
   slot-stays (openFor tag x) e = rw (serves (w .dispatcher) (w .channels) (κ .ready)) (open-stays tag x)
   slot-stays (close i) e = rw (serves (w .dispatcher) (w .channels) (κ .ready)) (close-stays i (eqb-false i p e))
-  slot-stays (send a b m) e =
+  slot-stays (send a b x) e =
       rw (serves (w .dispatcher) (w .channels) (κ .ready)) (all-slotted (λ (o : SlotSending). Stays (o .rows)) _ _ _ _ (λ _ _ _. h) (λ _ _. h) (λ _ _. h))
   slot-stays (receive a b) e =
       rw (serves (w .dispatcher) (w .channels) (κ .ready)) (all-slotted (λ (o : SlotReceiving). Stays (o .rows)) _ _ _ _ (λ _ _ _. h) (λ _ _. h) (λ _ _. h))
@@ -198,7 +198,6 @@ module _ (w : Desk) (cs : List JobCall) (κ : Kept (run w cs)) (was : AllOpened 
 
   still-sends : (p : ℕ) (o : OpenIn v p) (x a : ℕ) (id : CapId) → jobIn v p .ends .send ≡ id → slotIn (v .rows) x a ≡ holding id →
       (c : JobCall) → closes p c ≡ false → slotIn (after v c .rows) x a ≡ holding id
-  unfolding Stays
   still-sends p o x a id i h c e = slot-stays v κ p o x a (h ∙ ap holding (sym i)) c e ∙ ap holding i
 
   -- a call more: it opened the job, or left it as it was

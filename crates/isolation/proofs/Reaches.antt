@@ -72,7 +72,7 @@ module _ (w : Desk) (κ : Kept w) where
   unfolding after
   after-kept (openFor tag x) = rw (serves (w .dispatcher) (w .channels) (κ .ready)) (open-keeps w κ tag x)
   after-kept (close p) = rw (serves (w .dispatcher) (w .channels) (κ .ready)) (close-keeps w κ p)
-  after-kept (send r s m) = rw (serves (w .dispatcher) (w .channels) (κ .ready)) (send-keeps w κ r s m)
+  after-kept (send r s x) = rw (serves (w .dispatcher) (w .channels) (κ .ready)) (send-keeps w κ r s x)
   after-kept (receive r s) = rw (serves (w .dispatcher) (w .channels) (κ .ready)) (receive-keeps w κ r s)
   after-kept (park r s task) = rw (serves (w .dispatcher) (w .channels) (κ .ready)) (park-keeps w κ r s task)
 

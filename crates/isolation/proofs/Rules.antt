@@ -12,7 +12,7 @@ use Rattle.isolation.proofs.Reaches.{serves, after-kept}
 unfoldable pub ruleAfter : Desk → JobCall → Desk
 ruleAfter w (openFor tag x) = opened (openJobOf (w .dispatcher) (w .rows) (w .channels) tag x)
 ruleAfter w (close p) = closed (closeJobOf (w .dispatcher) (w .rows) (w .channels) p)
-ruleAfter w (send r s m) = sent (slotSendOf (w .dispatcher) (w .rows) (w .channels) r s m)
+ruleAfter w (send r s x) = sent (slotSendOf (w .dispatcher) (w .rows) (w .channels) r s x)
 ruleAfter w (receive r s) = received (slotRecvOf (w .dispatcher) (w .rows) (w .channels) r s)
 ruleAfter w (park r s task) = parked (slotParkOf (w .dispatcher) (w .rows) (w .channels) r s task)
 
@@ -24,7 +24,7 @@ pub after-rule : (w : Desk) → Kept w → (c : JobCall) → after w c ≡ ruleA
 unfolding after ruleAfter
 after-rule w κ (openFor tag x) = rw (serves (w .dispatcher) (w .channels) (κ .ready))
 after-rule w κ (close p) = rw (serves (w .dispatcher) (w .channels) (κ .ready))
-after-rule w κ (send r s m) = rw (serves (w .dispatcher) (w .channels) (κ .ready))
+after-rule w κ (send r s x) = rw (serves (w .dispatcher) (w .channels) (κ .ready))
 after-rule w κ (receive r s) = rw (serves (w .dispatcher) (w .channels) (κ .ready))
 after-rule w κ (park r s task) = rw (serves (w .dispatcher) (w .channels) (κ .ready))
 

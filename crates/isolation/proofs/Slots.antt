@@ -35,6 +35,13 @@ pub names-other : (c d : CapId) → (c ≡ d → ⊥) → namesId c (holding d) 
 unfolding pick
 names-other c d n = ne-eqb (d .raw) (c .raw) (λ e. n (ap (λ (r : ℕ). let x : CapId = record { raw = r } in x) (sym e)))
 
+-- what the test finds is there
+pub names-holding : (c : CapId) (x : Slot) → namesId c x ≡ true → x ≡ holding c
+names-holding c x =
+    all-pick (λ (b : Bool). b ≡ true → x ≡ holding c) (x .present) _ _
+    (λ p e. let i : x .id ≡ c = ap (λ (r : ℕ). let y : CapId = record { raw = r } in y) (eqb-true (x .id .raw) (c .raw) e) in rw (← i, ← p))
+    (λ _ e. absurd (not-both false e refl))
+
 -- two slots that hold are one where the ids are
 pub same-held : {c d : CapId} → holding c ≡ holding d → c ≡ d
 same-held e = ap (λ (x : Slot). x .id) e

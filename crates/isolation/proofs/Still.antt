@@ -10,9 +10,10 @@ use Rattle.ipc_rules.specs.Send.{sendOf}
 use Rattle.ipc_rules.specs.Receive.{recvOf, parkOf}
 use Rattle.ipc_rules.specs.Views.{holdCount, ephemeralOf, Alike, Steady, OnlyMailbox, OnlyCounts}
 use Rattle.ipc_rules.specs.declared.state.Message.{Message}
+use Rattle.ipc_rules.specs.declared.state.Payload.{Payload}
 use Rattle.ipc_rules.specs.declared.state.TaskId.{TaskId}
 use Rattle.ipc_rules.specs.declared.state.Table.{Table as Channels}
-use Rattle.ipc_rules.proofs.AfterSend.{Sends, SendWays, bad-cap, full, sent, send-ways}
+use Rattle.ipc_rules.proofs.AfterSend.{Sends, SendWays, bad-row, bad-cap, full, sent, send-ways}
 use Rattle.ipc_rules.proofs.AfterReceive as recv
 use Rattle.ipc_rules.proofs.AfterPark as park
 use Rattle.ipc_rules.proofs.Changes.{counts-anew, alike-same, steady-same}
@@ -41,13 +42,14 @@ pub still-same : (t : Channels) → Still t t
 still-same t = record { steady = steady-same t; boxes = λ k. stays-alike (alike-same t k) }
 
 module _ (t : Channels) (c : CapId) (s : Sound t) where
-  pub send-still : (m : Message) → Still t (sendOf t c m .table)
-  send-still m = by (send-ways t c m s)
+  pub send-still : (p : Payload) (row : ℕ) → Still t (sendOf t c p row .table)
+  send-still p row = by (send-ways t c p row s)
     where
-      by : SendWays t c m (sendOf t c m) → Still t (sendOf t c m .table)
-      by (bad-cap _ q) = rw q (still-counts (counts-anew t _))
-      by (full _ _ _ q) = rw q (still-counts (counts-anew t _))
-      by (sent a x) = still-box (a .box) (x .rest) (record { live = x .live; ephemeral = x .ephemeral; holds = x .holds })
+      by : SendWays t c p row (sendOf t c p row) → Still t (sendOf t c p row .table)
+      by (bad-row _ q) = rw q (still-same t)
+      by (bad-cap _ _ q) = rw q (still-counts (counts-anew t _))
+      by (full _ _ _ _ q) = rw q (still-counts (counts-anew t _))
+      by (sent _ a x) = still-box (a .box) (x .rest) (record { live = x .live; ephemeral = x .ephemeral; holds = x .holds })
 
   gives-still : (k : ℕ) (m : Message) (u : Channels) → recv.Gives t k m u → Still t u
   gives-still k m u g = still-box k (g .rest) (record { live = g .live; ephemeral = g .ephemeral; holds = g .holds })

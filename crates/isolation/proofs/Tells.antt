@@ -8,7 +8,7 @@ use Rattle.cap.specs.declared.slot.SlotAnswer.the-variants.{Names}
 use Rattle.capslots.specs.Rows.{getOf}
 use Rattle.ipc_rules.specs.Create.{createOf}
 use Rattle.ipc_rules.specs.Revoke.{revokeOf}
-use Rattle.ipc_rules.specs.declared.state.Message.{Message}
+use Rattle.ipc_rules.specs.declared.state.Payload.{Payload}
 use Rattle.ipc_rules.specs.declared.state.TaskId.{TaskId}
 use Rattle.ipc_rules.specs.declared.state.Waiter.{Waiter}
 use Rattle.ipc_rules.specs.declared.answers.CreateAnswer.{CreateAnswer}
@@ -65,10 +65,10 @@ module _ (w : Desk) (κ : Kept w) where
       d .answer ∙ ap Revoked (sym (d .waiter) ∙ same))
 
   module _ (r s : ℕ) where
-    sends-told : (m : Message) (a : SendAnswer) → slotSendOf (w .dispatcher) (w .rows) (w .channels) r s m .answer ≡ send.the-variants.Answered a → ById w r s (λ c. calls.send c m) (calls.sent a)
+    sends-told : (x : Payload) (a : SendAnswer) → slotSendOf (w .dispatcher) (w .rows) (w .channels) r s x .answer ≡ send.the-variants.Answered a → ById w r s (λ c. calls.send c x r) (calls.sent a)
     unfolding slotSendOf calls.answer
-    sends-told m a =
-        all-slotted (λ (o : SlotSending). o .answer ≡ send.the-variants.Answered a → ById w r s (λ c. calls.send c m) (calls.sent a)) _ _ _ _
+    sends-told x a =
+        all-slotted (λ (o : SlotSending). o .answer ≡ send.the-variants.Answered a → ById w r s (λ c. calls.send c x r) (calls.sent a)) _ _ _ _
         (λ _ _ _ e. let z : _≡_ {A = ℕ} 0 1 = cc in absurd (omega arith)) (λ _ _ e. let z : _≡_ {A = ℕ} 0 1 = cc in absurd (omega arith))
         (λ c g e. record { id = c; stands = g; answers = ap calls.sent (cc) })
 
@@ -93,7 +93,7 @@ jobs-tell w ρ =
     record {
       opens = λ tag x j e. ap calls.created (opens-told w κ tag x j (rw (serves (w .dispatcher) (w .channels) (κ .ready)) at e));
       closes = λ p x e. ap calls.revoked (closes-told w κ p x (rw (serves (w .dispatcher) (w .channels) (κ .ready)) at e));
-      sends = λ r s m a e. sends-told w κ r s m a (rw (serves (w .dispatcher) (w .channels) (κ .ready)) at e);
+      sends = λ r s x a e. sends-told w κ r s x a (rw (serves (w .dispatcher) (w .channels) (κ .ready)) at e);
       receives = λ r s a e. receives-told w κ r s a (rw (serves (w .dispatcher) (w .channels) (κ .ready)) at e);
       parks = λ r s task a e. parks-told w κ r s task a (rw (serves (w .dispatcher) (w .channels) (κ .ready)) at e);
     }

@@ -15,7 +15,7 @@ use Rattle.cap.specs.Rights.{sendRight, receiveRight}
 use Rattle.cap.specs.Slot.{holding}
 use Rattle.cap.specs.declared.CapId.{CapId}
 use Rattle.capslots.specs.Table.{slotIn}
-use Rattle.ipc_rules.specs.State.{nobody, waiting}
+use Rattle.ipc_rules.specs.State.{nobody, waiting, stamped}
 use Rattle.ipc_rules.specs.Opening.{openingOf}
 use Rattle.ipc_rules.specs.Create.{createOf}
 use Rattle.ipc_rules.specs.Send.{sendOf}
@@ -23,13 +23,14 @@ use Rattle.ipc_rules.specs.Receive.{recvOf, parkOf}
 use Rattle.ipc_rules.specs.Views.{waiterOf, OnlyMailbox}
 use Rattle.ipc_rules.specs.declared.opening.Opening.the-variants.{Opens}
 use Rattle.ipc_rules.specs.declared.state.Message.{Message}
+use Rattle.ipc_rules.specs.declared.state.Payload.{Payload}
 use Rattle.ipc_rules.specs.declared.state.TaskId.{TaskId}
 use Rattle.ipc_rules.specs.declared.state.Waiter.{Waiter}
 use Rattle.ipc_rules.specs.declared.state.Table.{Table as Channels}
 use Rattle.ipc_rules.specs.declared.answers.ParkAnswer.the-variants.{Parked}
 use Rattle.ipc_rules.specs.declared.answers.SendAnswer as sending
 use Rattle.ipc_rules.specs.declared.answers.SendAnswer.the-variants.{Sent}
-use Rattle.ipc_rules.proofs.AfterSend.{Sends, SendWays, bad-cap, full, sent, send-ways}
+use Rattle.ipc_rules.proofs.AfterSend.{Sends, SendWays, bad-row, bad-cap, full, sent, send-ways}
 use Rattle.ipc_rules.proofs.AfterReceive as recv
 use Rattle.ipc_rules.proofs.AfterPark as park
 use Rattle.ipc_rules.proofs.AfterCounts.{authority-only, full-only, state-only}
@@ -130,7 +131,10 @@ module _ (w : Desk) (κ : Kept w) (p k : ℕ) (mine : OpenIn w p) (opens : openi
       for-it : into ≡ m ∷ [] → a ≡ toSend.the-variants.Answered (Sent (waiterOf t k)) → waiterOf u k ≡ nobody → Sending m into a u
       not-for-it : into ≡ [] → waiterOf u k ≡ waiterOf t k → Sending m into a u
 
-    module _ (m : Message) where
+    module _ (y : Payload) where
+      abbrev m : Message
+      m = stamped y r
+
       into : toSend.SlotSendAnswer → List Message
       into a = pick (slotHolds w r s (jobIn w p .ends .send)) (ifAccepted a m) []
 
@@ -138,25 +142,26 @@ module _ (w : Desk) (κ : Kept w) (p k : ℕ) (mine : OpenIn w p) (opens : openi
       unfolding into
       nothing a e = rw (e, pick-same (slotHolds w r s (jobIn w p .ends .send)))
 
-      sent-by : (c : CapId) → slotIn (w .rows) r s ≡ holding c → SendWays t c m (sendOf t c m) →
-          let a = toSend.the-variants.Answered (sendOf t c m .answer) in Sending m (into a) a (sendOf t c m .table)
+      sent-by : (c : CapId) → slotIn (w .rows) r s ≡ holding c → SendWays t c y r (sendOf t c y r) →
+          let a = toSend.the-variants.Answered (sendOf t c y r .answer) in Sending m (into a) a (sendOf t c y r .table)
       unfolding into ifAccepted ifSent pick
-      sent-by c h (bad-cap _ q) = rw q (not-for-it (nothing (toSend.the-variants.Answered sending.the-variants.BadCap) refl) (authority-only t .mailboxes k .waiter))
-      sent-by c h (full _ _ _ q) = rw q (not-for-it (nothing (toSend.the-variants.Answered sending.the-variants.Full) refl) (full-only t .mailboxes k .waiter))
-      sent-by c h (sent a x) =
+      sent-by c h (bad-row _ q) = rw q (not-for-it (nothing (toSend.the-variants.Answered sending.the-variants.BadRow) refl) refl)
+      sent-by c h (bad-cap _ _ q) = rw q (not-for-it (nothing (toSend.the-variants.Answered sending.the-variants.BadCap) refl) (authority-only t .mailboxes k .waiter))
+      sent-by c h (full _ _ _ _ q) = rw q (not-for-it (nothing (toSend.the-variants.Answered sending.the-variants.Full) refl) (full-only t .mailboxes k .waiter))
+      sent-by c h (sent _ a x) =
           let b = holds-send w κ r s c h (a .box) p k mine opens (a .opens) in
-          let y = x .answer in
+          let e = x .answer in
           let z = x .waiter in
           ⊎-elim
-          (λ i. for-it (rw (y, b, eq-eqb (a .box) k i)) (rw y (ap (λ (j : ℕ). toSend.the-variants.Answered (Sent (waiterOf t j))) i)) (rw i at z))
-          (λ n. not-for-it (rw (y, b, ne-eqb (a .box) k n)) (x .rest .others k (λ i. n (sym i)) .waiter)) (same? (a .box) k)
+          (λ i. for-it (rw (e, b, eq-eqb (a .box) k i)) (rw e (ap (λ (j : ℕ). toSend.the-variants.Answered (Sent (waiterOf t j))) i)) (rw i at z))
+          (λ n. not-for-it (rw (e, b, ne-eqb (a .box) k n)) (x .rest .others k (λ i. n (sym i)) .waiter)) (same? (a .box) k)
 
-      send-does : let o = slotSendOf (w .dispatcher) (w .rows) t r s m in Sending m (into (o .answer)) (o .answer) (o .channels)
+      send-does : let o = slotSendOf (w .dispatcher) (w .rows) t r s y in Sending m (into (o .answer)) (o .answer) (o .channels)
       unfolding slotSendOf ifAccepted
       send-does =
           all-slotted (λ (o : SlotSending). Sending m (into (o .answer)) (o .answer) (o .channels)) _ _ _ _
           (λ i n _. not-for-it (nothing (toSend.the-variants.OutOfRange i n) refl) refl) (λ i _. not-for-it (nothing (toSend.the-variants.Vacant i) refl) refl)
-          (λ c e. sent-by c (get-names (w .rows) r s c e) (send-ways t c m (κ .ready .sound)))
+          (λ c e. sent-by c (get-names (w .rows) r s c e) (send-ways t c y r (κ .ready .sound)))
 
 -- ---- every call
 module _ (w : Desk) (ρ : Reached w) (p k : ℕ) (x : TaskId) (y : Waits w p k x) where
@@ -167,10 +172,10 @@ module _ (w : Desk) (ρ : Reached w) (p k : ℕ) (x : TaskId) (y : Waits w p k x
   unfolding after closes accepted Same into
   waiter-stays (openFor tag i) e a = rw (serves (w .dispatcher) (w .channels) (κ .ready)) (open-same w κ p k (y .job-open) (y .opens) tag i)
   waiter-stays (close i) e a = rw (serves (w .dispatcher) (w .channels) (κ .ready)) (close-same w κ p k (y .job-open) (y .opens) i (eqb-false i p e))
-  waiter-stays (send r s m) e a =
-      rw (serves (w .dispatcher) (w .channels) (κ .ready)) (by (send-does w κ p k (y .job-open) (y .opens) r s m) (rw (serves (w .dispatcher) (w .channels) (κ .ready)) at a))
+  waiter-stays (send r s z) e a =
+      rw (serves (w .dispatcher) (w .channels) (κ .ready)) (by (send-does w κ p k (y .job-open) (y .opens) r s z) (rw (serves (w .dispatcher) (w .channels) (κ .ready)) at a))
     where
-      by : {l : List Message} {b : toSend.SlotSendAnswer} {u : Channels} → Sending w κ p k (y .job-open) (y .opens) r s m l b u → l ≡ [] → waiterOf u k ≡ waiterOf (w .channels) k
+      by : {l : List Message} {b : toSend.SlotSendAnswer} {u : Channels} → Sending w κ p k (y .job-open) (y .opens) r s (stamped z r) l b u → l ≡ [] → waiterOf u k ≡ waiterOf (w .channels) k
       by (for-it i _ _) n = none-one (sym i ∙ n)
       by (not-for-it _ q) n = q
   waiter-stays (receive r s) e a = rw (serves (w .dispatcher) (w .channels) (κ .ready)) (receive-same w κ p k (y .job-open) (y .opens) r s)
@@ -185,15 +190,15 @@ module _ (w : Desk) (ρ : Reached w) (p k : ℕ) (x : TaskId) (y : Waits w p k x
   Ended : JobCall → Type 0
   Ended c = Named w x c × (waiterOf (after w c .channels) k ≡ nobody)
 
-  sent-ends : (r s : ℕ) (m n : Message) → accepted w p (send r s m) ≡ n ∷ [] → Ended (send r s m)
+  sent-ends : (r s : ℕ) (z : Payload) (n : Message) → accepted w p (send r s z) ≡ n ∷ [] → Ended (send r s z)
   unfolding after accepted into Ended
-  sent-ends r s m n e =
-      let σ = serves (w .dispatcher) (w .channels) (κ .ready) (slotSent toSend.the-variants.BadTable (w .dispatcher) (w .rows) (w .channels)) (slotSendOf (w .dispatcher) (w .rows) (w .channels) r s m) in
-      by σ (send-does w κ p k (y .job-open) (y .opens) r s m) (rw (serves (w .dispatcher) (w .channels) (κ .ready)) at e)
+  sent-ends r s z n e =
+      let σ = serves (w .dispatcher) (w .channels) (κ .ready) (slotSent toSend.the-variants.BadTable (w .dispatcher) (w .rows) (w .channels)) (slotSendOf (w .dispatcher) (w .rows) (w .channels) r s z) in
+      by σ (send-does w κ p k (y .job-open) (y .opens) r s z) (rw (serves (w .dispatcher) (w .channels) (κ .ready)) at e)
     where
-      by : {o : SlotSending} {l : List Message} → slotSendCall (w .dispatcher) (w .rows) (w .channels) r s m ≡ o → Sending w κ p k (y .job-open) (y .opens) r s m l (o .answer) (o .channels) → l ≡ n ∷ [] → Ended (send r s m)
+      by : {o : SlotSending} {l : List Message} → slotSendCall (w .dispatcher) (w .rows) (w .channels) r s z ≡ o → Sending w κ p k (y .job-open) (y .opens) r s (stamped z r) l (o .answer) (o .channels) → l ≡ n ∷ [] → Ended (send r s z)
       by σ (for-it _ a q) _ =
-          (by-sending (ap (λ (o : SlotSending). o .answer) σ ∙ a ∙ ap (λ (z : Waiter). toSend.the-variants.Answered (Sent z)) (y .waiter)), ap (λ (o : SlotSending). waiterOf (o .channels) k) σ ∙ q)
+          (by-sending (ap (λ (o : SlotSending). o .answer) σ ∙ a ∙ ap (λ (a : Waiter). toSend.the-variants.Answered (Sent a)) (y .waiter)), ap (λ (o : SlotSending). waiterOf (o .channels) k) σ ∙ q)
       by σ (not-for-it i _) g = none-one (sym g ∙ i)
 
   closed-ends : (i : ℕ) → i ≡ p → Ended (close i)
@@ -208,7 +213,7 @@ module _ (w : Desk) (ρ : Reached w) (p k : ℕ) (x : TaskId) (y : Waits w p k x
   unfolding closes accepted
   ends (openFor tag i) = λ e. ⊎-elim (λ h. absurd (not-both false h refl)) (λ h. none-one (sym (h .1))) e
   ends (close i) = λ e. ⊎-elim (λ h. closed-ends i (eqb-true i p h)) (λ h. none-one (sym (h .1))) e
-  ends (send r s m) = λ e. ⊎-elim (λ h. absurd (not-both false h refl)) (λ h. sent-ends r s m (h .0) (h .1)) e
+  ends (send r s z) = λ e. ⊎-elim (λ h. absurd (not-both false h refl)) (λ h. sent-ends r s z (h .0) (h .1)) e
   ends (receive r s) = λ e. ⊎-elim (λ h. absurd (not-both false h refl)) (λ h. none-one (sym (h .1))) e
   ends (park r s task) = λ e. ⊎-elim (λ h. absurd (not-both false h refl)) (λ h. none-one (sym (h .1))) e
 

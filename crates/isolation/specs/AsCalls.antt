@@ -11,7 +11,7 @@ use Rattle.capslots.specs.Rows.{getOf}
 use Rattle.capslots.specs.declared.Table.{Table as Rows}
 use Rattle.ipc_rules.specs.Make.{inRange}
 use Rattle.ipc_rules.specs.Opening as openings
-use Rattle.ipc_rules.specs.declared.state.Message.{Message}
+use Rattle.ipc_rules.specs.declared.state.Payload.{Payload}
 use Rattle.ipc_rules.specs.declared.state.Sizes.{Sizes}
 use Rattle.ipc_rules.specs.declared.state.TaskId.{TaskId}
 use Rattle.ipc_rules.specs.declared.state.Waiter.{Waiter}
@@ -57,14 +57,14 @@ closeCalls t c (toClose.the-variants.Closed x) = openings.opened (openings.openi
 closeCalls t c toClose.the-variants.NoJob = []
 closeCalls t c toClose.the-variants.BadTable = []
 
--- by row and slot, one call by the id that stands there
+-- by row and slot, one call by the id that stands there; the send that a sending makes names that row
 unfoldable pub slotCalls : Rows → ℕ → ℕ → (CapId → calls.Call) → List calls.Call
 slotCalls rows r s call = slotted (getOf rows r s) (λ _ _. []) (λ _. []) (λ c. call c ∷ [])
 
 unfoldable pub callsOf : Desk → JobCall → List calls.Call
 callsOf w (openFor tag x) = openCalls (opening w tag x .answer)
 callsOf w (close p) = closeCalls (w .channels) (jobIn w p .ends .send) (closing w p .answer)
-callsOf w (send r s m) = slotCalls (w .rows) r s (λ c. calls.send c m)
+callsOf w (send r s x) = slotCalls (w .rows) r s (λ c. calls.send c x r)
 callsOf w (receive r s) = slotCalls (w .rows) r s (λ c. calls.receive c)
 callsOf w (park r s task) = slotCalls (w .rows) r s (λ c. calls.park c task)
 
@@ -90,7 +90,7 @@ pub record Tells (w : Desk) : Type 0 where
       calls.answer (w .channels) (calls.create true) ≡ calls.created (Created (record { send = j .send; recv = j .recv }))
   pub closes : (p : ℕ) (x : Waiter) → closing w p .answer ≡ toClose.the-variants.Closed x →
       calls.answer (w .channels) (calls.revoke (jobIn w p .ends .send)) ≡ calls.revoked (Revoked x)
-  pub sends : (r s : ℕ) (m : Message) (a : SendAnswer) → sending w r s m .answer ≡ toSend.the-variants.Answered a → ById w r s (λ c. calls.send c m) (calls.sent a)
+  pub sends : (r s : ℕ) (x : Payload) (a : SendAnswer) → sending w r s x .answer ≡ toSend.the-variants.Answered a → ById w r s (λ c. calls.send c x r) (calls.sent a)
   pub receives : (r s : ℕ) (a : RecvAnswer) → receiving w r s .answer ≡ toReceive.the-variants.Answered a → ById w r s (λ c. calls.receive c) (calls.received a)
   pub parks : (r s : ℕ) (task : TaskId) (a : ParkAnswer) → parking w r s task .answer ≡ toPark.the-variants.Answered a → ById w r s (λ c. calls.park c task) (calls.parked a)
 

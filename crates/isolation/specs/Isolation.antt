@@ -7,9 +7,13 @@
 --                                              and one of its slots, and m is the message in its answer
 --   "for a job"                                `job`: one opening among cs, for a tag, that took a place which no later call of cs closed
 --   "a sentence accepted"                      `next`: of all the messages accepted for this job since its opening, in their order, m is the
---                                              one after those that were handed out from it; so m was sent for it, whole, and comes once;
---                                              by the extractor's row, which alone has the job's send id (`sender`, and Own)
+--                                              one after those that were handed out from it; so m was sent for it, whole, its stamp
+--                                              included, and comes once; by the extractor's row, which alone has the job's send id
+--                                              (`sender`, and Own)
 --   "the row bound to its tag"                 `bound`: in the dispatcher as it was made, the variant of the job's tag has row r
+--
+-- Request No. 10: "A filter cannot tell which row wrote a sentence." It can: the stamp that it is handed is the row that the job's opening
+-- named as the extractor's, `writer`.
 use mathlib.Core.Path.{_≡_}
 use mathlib.Core.List.{List, [], _∷_, _++_}
 use Prim.Native.Nat.{ℕ}
@@ -27,6 +31,7 @@ pub record FromItsJob (w : Desk) (cs : List JobCall) (call : JobCall) (r : ℕ) 
   pub from : handed (run w cs) place call ≡ m ∷ []
   pub rest : List Message
   pub next : allAccepted (since job) place (job .later) ≡ allHanded (since job) place (job .later) ++ (m ∷ rest)
+  pub writer : m .row ≡ job .extractor
 
 abbrev pub Isolation : Type 0
 Isolation = FromFresh (λ w cs. (call : JobCall) (r : ℕ) (m : Message) → handedTo (run w cs) r call ≡ m ∷ [] → FromItsJob w cs call r m)

@@ -10,6 +10,7 @@ use Rattle.cap.specs.Slot.{holding}
 use Rattle.cap.specs.declared.CapId.{CapId}
 use Rattle.capslots.specs.Table.{slotIn}
 use Rattle.capslots.specs.Rows.{namesId}
+use Rattle.ipc_rules.specs.State.{stamped}
 use Rattle.ipc_rules.specs.declared.state.Message.{Message}
 use Rattle.history.specs.Traffic.{ifSent, byReceive, byPark}
 use Rattle.dispatcher_rules.specs.State.{jobAt, variantIn, rowOf, openJob}
@@ -66,11 +67,12 @@ ifGiven (toPark.the-variants.Vacant s) = []
 ifGiven toPark.the-variants.BadTable = []
 
 -- ---- by call, for the job in place p
--- the messages, one or none, that the call has accepted for it: it sends by a slot that holds the job's send id
+-- the messages, one or none, that the call has accepted for it: it sends by a slot that holds the job's send id, and what was handed in is
+-- stamped with the row that it names
 unfoldable pub accepted : Desk → ℕ → JobCall → List Message
 accepted w p (openFor tag x) = []
 accepted w p (close q) = []
-accepted w p (send r s m) = pick (slotHolds w r s (jobIn w p .ends .send)) (ifAccepted (sending w r s m .answer) m) []
+accepted w p (send r s x) = pick (slotHolds w r s (jobIn w p .ends .send)) (ifAccepted (sending w r s x .answer) (stamped x r)) []
 accepted w p (receive r s) = []
 accepted w p (park r s task) = []
 
@@ -78,7 +80,7 @@ accepted w p (park r s task) = []
 unfoldable pub handedTo : Desk → ℕ → JobCall → List Message
 handedTo w r (openFor tag x) = []
 handedTo w r (close q) = []
-handedTo w r (send r′ s m) = []
+handedTo w r (send r′ s x) = []
 handedTo w r (receive r′ s) = pick (eqb r′ r) (ifReceived (receiving w r′ s .answer)) []
 handedTo w r (park r′ s task) = pick (eqb r′ r) (ifGiven (parking w r′ s task .answer)) []
 
@@ -86,7 +88,7 @@ handedTo w r (park r′ s task) = pick (eqb r′ r) (ifGiven (parking w r′ s t
 unfoldable pub handed : Desk → ℕ → JobCall → List Message
 handed w p (openFor tag x) = []
 handed w p (close q) = []
-handed w p (send r s m) = []
+handed w p (send r s x) = []
 handed w p (receive r s) = pick (slotHolds w r s (jobIn w p .ends .recv)) (ifReceived (receiving w r s .answer)) []
 handed w p (park r s task) = pick (slotHolds w r s (jobIn w p .ends .recv)) (ifGiven (parking w r s task .answer)) []
 
@@ -94,7 +96,7 @@ handed w p (park r s task) = pick (slotHolds w r s (jobIn w p .ends .recv)) (ifG
 unfoldable pub closes : ℕ → JobCall → Bool
 closes p (openFor tag x) = false
 closes p (close q) = eqb q p
-closes p (send r s m) = false
+closes p (send r s x) = false
 closes p (receive r s) = false
 closes p (park r s task) = false
 

@@ -6,7 +6,7 @@ use mathlib.Core.List.{List, [], _∷_}
 use Prim.Native.Nat.{ℕ}
 use Rattle.capslots.specs.Table.{freshTable}
 use Rattle.ipc_rules.specs.Make.{freshOf, inRange}
-use Rattle.ipc_rules.specs.declared.state.Message.{Message}
+use Rattle.ipc_rules.specs.declared.state.Payload.{Payload}
 use Rattle.ipc_rules.specs.declared.state.Sizes.{Sizes}
 use Rattle.ipc_rules.specs.declared.state.TaskId.{TaskId}
 use Rattle.dispatcher_rules.specs.Make.{makeOf}
@@ -21,11 +21,12 @@ use Rattle.dispatcher_rules.specs.declared.answers.SlotReceiving.{SlotReceiving
 use Rattle.dispatcher_rules.specs.declared.answers.SlotParking.{SlotParking}
 use Rattle.dispatcher_rules.specs.declared.answers.MakeAnswer.the-variants.{Made}
 
--- every call but making, with any operands: the tag and the extractor's row; the place; row, slot and what is sent or who parks
+-- every call but making, with any operands: the tag and the extractor's row; the place; row, slot and what is handed in or who parks. A
+-- sending's row is the one that its message is stamped with (request No. 10)
 pub data JobCall : Type 0 where
   openFor : Tag → ℕ → JobCall
   close : ℕ → JobCall
-  send : ℕ → ℕ → Message → JobCall
+  send : ℕ → ℕ → Payload → JobCall
   receive : ℕ → ℕ → JobCall
   park : ℕ → ℕ → TaskId → JobCall
 
@@ -37,7 +38,7 @@ module _ (w : Desk) where
   abbrev pub closing : ℕ → JobClosing
   closing = closeJobCall (w .dispatcher) (w .rows) (w .channels)
 
-  abbrev pub sending : ℕ → ℕ → Message → SlotSending
+  abbrev pub sending : ℕ → ℕ → Payload → SlotSending
   sending = slotSendCall (w .dispatcher) (w .rows) (w .channels)
 
   abbrev pub receiving : ℕ → ℕ → SlotReceiving
@@ -65,7 +66,7 @@ parked o = record { dispatcher = o .dispatcher; rows = o .rows; channels = o .ch
 unfoldable pub after : Desk → JobCall → Desk
 after w (openFor tag x) = opened (opening w tag x)
 after w (close p) = closed (closing w p)
-after w (send r s m) = sent (sending w r s m)
+after w (send r s x) = sent (sending w r s x)
 after w (receive r s) = received (receiving w r s)
 after w (park r s task) = parked (parking w r s task)
 

@@ -11,6 +11,7 @@ use Rattle.ipc_rules.specs.Opening.{openingOf}
 use Rattle.ipc_rules.specs.Views.{waiterOf}
 use Rattle.ipc_rules.specs.declared.opening.Opening.the-variants.{Opens}
 use Rattle.ipc_rules.specs.declared.state.Message.{Message}
+use Rattle.ipc_rules.specs.declared.state.Payload.{Payload}
 use Rattle.ipc_rules.specs.declared.state.TaskId.{TaskId}
 use Rattle.ipc_rules.specs.declared.answers.ParkAnswer.the-variants.{Parked}
 use Rattle.ipc_rules.specs.declared.answers.SendAnswer.the-variants.{Sent}
@@ -29,7 +30,7 @@ pub record Waits (w : Desk) (p k : ℕ) (x : TaskId) : Type 0 where
 
 -- the call answers x
 pub data Named (w : Desk) (x : TaskId) : JobCall → Type 0 where
-  by-sending : {r s : ℕ} {m : Message} → sending w r s m .answer ≡ Answered (Sent (waiting x)) → Named w x (send r s m)
+  by-sending : {r s : ℕ} {y : Payload} → sending w r s y .answer ≡ Answered (Sent (waiting x)) → Named w x (send r s y)
   by-closing : {p : ℕ} → closing w p .answer ≡ Closed (waiting x) → Named w x (close p)
 
 -- through every other call it waits on

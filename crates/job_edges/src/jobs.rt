@@ -7,7 +7,7 @@ use capslots::Table as Rows;
 use dispatcher_rules::state::Desk;
 use dispatcher_rules::state::Dispatcher;
 use edgecalls::channels;
-use edgescript::operands::message;
+use edgescript::operands::payload;
 use edgescript::operands::rest;
 use edgescript::operands::size;
 use edgescript::operands::task;
@@ -37,8 +37,8 @@ fn close(d: Desk, w: &[u64]) -> Desk {
 }
 
 fn send(d: Desk, w: &[u64]) -> Desk {
-    let m = message(rest(w, 2));
-    let x = dispatcher::send(d.dispatcher, d.rows, d.channels, size(w, 0), size(w, 1), m);
+    let p = payload(rest(w, 2));
+    let x = dispatcher::send(d.dispatcher, d.rows, d.channels, size(w, 0), size(w, 1), p);
     let a = x.answer;
     print::answer(a.shown());
     desk(x.dispatcher, x.rows, x.channels)

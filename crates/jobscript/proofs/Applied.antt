@@ -14,7 +14,7 @@ use Rattle.dispatcher_rules.specs.Close.{closeJobOf}
 use Rattle.dispatcher_rules.specs.Slots.{slotSendOf, slotRecvOf, slotParkOf}
 use Rattle.dispatcher_rules.specs.declared.state.Desk.{Desk}
 use Rattle.jobscript.specs.Done.{Done, ReadyDesk}
-use Rattle.jobscript.specs.Operands.{tagAt, messageAt, taskAt}
+use Rattle.jobscript.specs.Operands.{tagAt, payloadAt, taskAt}
 use Rattle.jobscript.specs.Operations.{newDone, openDone, closeDone, sendDone, receiveDone, parkDone, rowDone, countsDone, unknownDone, allDone, applyOf}
 use Rattle.jobscript.proofs.Keeps.{new-ready, open-ready, close-ready, send-ready, receive-ready, park-ready, row-ready, counts-ready}
 use Rattle.dispatcher_rules.proofs.Shows.{open-few, close-few, slot-send-few, slot-recv-few, slot-park-few}
@@ -67,7 +67,7 @@ module _ (script : List ℕ) (d : Desk) where
       new-few ▸
       open-few (openJobOf (d .dispatcher) (d .rows) (d .channels) (tagAt script 3) (byteAt script 8) .answer) ▸
       close-few (closeJobOf (d .dispatcher) (d .rows) (d .channels) (byteAt script 3) .answer) ▸
-      slot-send-few (slotSendOf (d .dispatcher) (d .rows) (d .channels) (byteAt script 3) (byteAt script 4) (messageAt script) .answer) ▸
+      slot-send-few (slotSendOf (d .dispatcher) (d .rows) (d .channels) (byteAt script 3) (byteAt script 4) (payloadAt script) .answer) ▸
       slot-recv-few (slotRecvOf (d .dispatcher) (d .rows) (d .channels) (byteAt script 3) (byteAt script 4) .answer) ▸
       slot-park-few (slotParkOf (d .dispatcher) (d .rows) (d .channels) (byteAt script 3) (byteAt script 4) (taskAt script) .answer) ▸
       row-few ▸

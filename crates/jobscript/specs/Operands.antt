@@ -4,7 +4,7 @@ use mathlib.Core.List.{List, [], _∷_, _++_}
 use Prim.Native.Nat.{ℕ, zero, suc, _+_, _*_}
 use Rattle.logread.specs.Little.{byteAt, littleAt}
 use Rattle.ipc_rules.specs.State.{sizesOf}
-use Rattle.ipc_rules.specs.declared.state.Message.{Message}
+use Rattle.ipc_rules.specs.declared.state.Payload.{Payload}
 use Rattle.ipc_rules.specs.declared.state.Sizes.{Sizes}
 use Rattle.ipc_rules.specs.declared.state.TaskId.{TaskId}
 use Rattle.dispatcher_rules.specs.declared.state.Tag.{Tag}
@@ -35,8 +35,8 @@ abbrev pub variantsAt : List ℕ → List Variant
 variantsAt script = firsts (variantAt script) 16
 
 -- ---- send and park, after row and slot
-abbrev pub messageAt : List ℕ → Message
-messageAt script = record { tag = littleAt script 5 4; a = littleAt script 9 8; b = littleAt script 17 8 }
+abbrev pub payloadAt : List ℕ → Payload
+payloadAt script = record { tag = littleAt script 5 4; a = littleAt script 9 8; b = littleAt script 17 8 }
 
 abbrev pub taskAt : List ℕ → TaskId
 taskAt script = record { slot = littleAt script 5 2; epoch = littleAt script 7 2 }

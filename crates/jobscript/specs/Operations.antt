@@ -27,7 +27,7 @@ use Rattle.dispatcher_rules.specs.declared.answers.SlotSending.{SlotSending}
 use Rattle.dispatcher_rules.specs.declared.answers.SlotReceiving.{SlotReceiving}
 use Rattle.dispatcher_rules.specs.declared.answers.SlotParking.{SlotParking}
 use Rattle.jobscript.specs.Done.{Done, done, deskOf}
-use Rattle.jobscript.specs.Operands.{sizesAt, countAt, variantsAt, tagAt, messageAt, taskAt}
+use Rattle.jobscript.specs.Operands.{sizesAt, countAt, variantsAt, tagAt, payloadAt, taskAt}
 
 -- ---- fresh desks
 -- fresh tables of the sizes given, and a dispatcher with the first n variants bound
@@ -72,9 +72,9 @@ openDone script d = afterOpen (openJobOf (d .dispatcher) (d .rows) (d .channels)
 unfoldable pub closeDone : List ℕ → Desk → Done
 closeDone script d = afterClose (closeJobOf (d .dispatcher) (d .rows) (d .channels) (byteAt script 3))
 
--- 3, send (row, slot, message)
+-- 3, send (row, slot, tag, a, b)
 unfoldable pub sendDone : List ℕ → Desk → Done
-sendDone script d = afterSend (slotSendOf (d .dispatcher) (d .rows) (d .channels) (byteAt script 3) (byteAt script 4) (messageAt script))
+sendDone script d = afterSend (slotSendOf (d .dispatcher) (d .rows) (d .channels) (byteAt script 3) (byteAt script 4) (payloadAt script))
 
 -- 4, receive (row, slot)
 unfoldable pub receiveDone : List ℕ → Desk → Done

@@ -4,7 +4,7 @@ ghost use Rattle.jobscript.specs.Done.{packed};
 ghost use Rattle.jobscript.specs.Operations.{rowDone, countsDone};
 use crate::Outcome;
 use crate::operands::index_at;
-use capslots::ROWS;
+use cap::ROWS;
 use dispatcher_rules::state::Desk;
 use ipc_rules::answers::RefusalsAnswer;
 use laws::refusals;

@@ -4,7 +4,7 @@ ghost use Rattle.jobscript.specs.Done.{packed, ReadyDesk};
 ghost use Rattle.jobscript.specs.Operations.{sendDone, receiveDone, parkDone};
 use crate::Outcome;
 use crate::operands::index_at;
-use crate::operands::message;
+use crate::operands::payload;
 use crate::operands::task;
 use dispatcher_rules::state::Desk;
 
@@ -15,8 +15,15 @@ pub fn op_send(mut desk: Desk, script: &[u8]) -> Outcome
 {
     let row = index_at(script, 3);
     let slot = index_at(script, 4);
-    let msg = message(script);
-    let sent = dispatcher::inner::send(desk.dispatcher, desk.rows, desk.channels, row, slot, msg);
+    let handed = payload(script);
+    let sent = dispatcher::inner::send(
+        desk.dispatcher,
+        desk.rows,
+        desk.channels,
+        row,
+        slot,
+        handed,
+    );
     let answer = sent.answer;
     let dispatcher = sent.dispatcher;
     let rows = sent.rows;

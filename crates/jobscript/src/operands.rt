@@ -2,12 +2,12 @@
 ghost use mathlib.Core.Path.{_≡_};
 ghost use Prim.Native.Nat.{_<_};
 ghost use Rattle.logread.specs.Little.{byteAt};
-ghost use Rattle.jobscript.specs.Operands.{sizesAt, tagAt, variantAt, variantsAt, messageAt, taskAt};
+ghost use Rattle.jobscript.specs.Operands.{sizesAt, tagAt, variantAt, variantsAt, payloadAt, taskAt};
 use dispatcher_rules::state::MAX_VARIANTS;
 use dispatcher_rules::state::NO_VARIANT;
 use dispatcher_rules::state::Tag;
 use dispatcher_rules::state::Variant;
-use ipc_rules::state::Message;
+use ipc_rules::state::Payload;
 use ipc_rules::state::Sizes;
 use ipc_rules::state::TaskId;
 use logread::byte_at;
@@ -77,10 +77,10 @@ pub fn sizes(script: &[u8]) -> Sizes
 }
 
 // That of `send`, after row and slot.
-pub fn message(script: &[u8]) -> Message
-    ensures { λ r. ⌜ r ≡ messageAt (now (script .entry)) ⌝ }
+pub fn payload(script: &[u8]) -> Payload
+    ensures { λ r. ⌜ r ≡ payloadAt (now (script .entry)) ⌝ }
 {
-    Message {
+    Payload {
         tag: u32_at(script, 5),
         a: u64_at(script, 9),
         b: u64_at(script, 17),

@@ -7,7 +7,7 @@ use Rattle.laws.specs.Every.{every}
 use Rattle.laws.proofs.Every.{every-at}
 use Rattle.logread.specs.Read.{lengthOf, lengths}
 
--- no operation has more than 24 bytes of operands
-pub operands-few : (op : ℕ) → op < 28 → lengthOf op ≤ 24
+-- no operation has more than 25 bytes of operands
+pub operands-few : (op : ℕ) → op < 28 → lengthOf op ≤ 25
 unfolding lengthOf lengths every
-operands-few op h = leb-true (lengthOf op) 24 (every-at (λ k. leb (lengthOf k) 24) 28 refl op h)
+operands-few op h = leb-true (lengthOf op) 25 (every-at (λ k. leb (lengthOf k) 25) 28 refl op h)

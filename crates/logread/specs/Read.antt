@@ -12,9 +12,9 @@ use Rattle.logread.specs.Operands.{operandsOk}
 use Rattle.logread.specs.declared.Read.{Read}
 use Rattle.logread.specs.declared.Read.the-variants.{Whole, Short, BadMark, BadOp, BadOperand}
 
--- the operand lengths by operation, 0 upward
+-- the operand lengths by operation, 0 upward; with request No. 10 send has 25
 unfoldable pub lengths : List ℕ
-lengths = 3 ∷ 1 ∷ 24 ∷ 4 ∷ 8 ∷ 4 ∷ 4 ∷ 20 ∷ 20 ∷ 4 ∷ 4 ∷ 0 ∷ 0 ∷ 2 ∷ 5 ∷ 21 ∷ 6 ∷ 4 ∷ 1 ∷ 4 ∷ 4 ∷ 4 ∷ 4 ∷ 4 ∷ 21 ∷ 1 ∷ 6 ∷ 0 ∷ []
+lengths = 3 ∷ 1 ∷ 25 ∷ 4 ∷ 8 ∷ 4 ∷ 4 ∷ 20 ∷ 20 ∷ 4 ∷ 4 ∷ 0 ∷ 0 ∷ 2 ∷ 5 ∷ 21 ∷ 6 ∷ 4 ∷ 1 ∷ 4 ∷ 4 ∷ 4 ∷ 4 ∷ 4 ∷ 21 ∷ 1 ∷ 6 ∷ 0 ∷ []
 
 -- how many bytes of operands an operation has
 unfoldable pub lengthOf : ℕ → ℕ

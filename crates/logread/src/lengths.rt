@@ -7,7 +7,7 @@ ghost use Rattle.logread.specs.Read.{lengthOf};
 const LENGTHS: [u8; 28] = [
     3,
     1,
-    24,
+    25,
     4,
     8,
     4,

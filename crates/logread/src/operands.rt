@@ -1,4 +1,4 @@
-// Refusal 25: the flag of create, and the lists of register, release, seed and spawn.
+// Refusal 25: the flag of create, the lists of register, release, seed and spawn, and the row of send.
 ghost use mathlib.Core.Path.{_≡_};
 ghost use Rattle.laws.specs.Pick.{pick};
 ghost use Rattle.logread.specs.Operands.{startsWithList, operandsOk};
@@ -6,6 +6,7 @@ use crate::lists::flag_ok;
 use crate::lists::list_ok;
 use crate::little::byte_at;
 use crate::op;
+use cap::ROWS;
 
 // Where a list starts: that of register and release at once, that of seed and spawn after the row.
 fn list_at(op: u8) -> usize
@@ -17,8 +18,11 @@ fn list_at(op: u8) -> usize
     4
 }
 
-// One call tests all lists for the optimiser's sake: with one more way through here it has `step` copy the tables before it hands them to
-// `apply`, and a replay takes half as long again.
+// A send's row comes last, after id, tag, a and b.
+const SEND_ROW: usize = 27;
+
+// For the optimiser's sake one call tests all lists, and the last return is for all operations without any: with one more return it has `step`
+// copy the tables before it hands them to `apply`, and a replay takes half as long again.
 pub fn operands_ok(op: u8, log: &[u8]) -> bool
     ensures { λ r. ⌜ r ≡ operandsOk op (now (log .entry)) ⌝ }
 {
@@ -28,5 +32,5 @@ pub fn operands_ok(op: u8, log: &[u8]) -> bool
     if ((op == op::REGISTER) | (op == op::RELEASE)) | ((op == op::SEED) | (op == op::SPAWN)) {
         return list_ok(log, list_at(op));
     }
-    true
+    (op != op::SEND) | ((byte_at(log, SEND_ROW) as usize) < ROWS)
 }

@@ -32,7 +32,7 @@ use Rattle.operations.specs.Holds.{registerDone, releaseDone}
 use Rattle.operations.specs.Joined.{spawnDone, leaveDone, giveDone}
 use Rattle.operations.specs.Mints.{taskMintDone, taskLookupDone, taskEndDone, irqMintDone, irqLookupDone}
 use Rattle.operations.specs.Rows.{getDone, holdsDone, seedDone, installDone, transferDone, drainDone}
-use Rattle.operations.specs.Operands.{idAt, taskAt, messageAt}
+use Rattle.operations.specs.Operands.{idAt, taskAt, payloadAt}
 use Rattle.operations.specs.declared.Tables.{Tables}
 use Rattle.operations.proofs.Keeps.{new-done-kept, create-done-kept, send-done-kept, receive-done-kept, park-done-kept, revoke-done-kept, register-done-kept, release-done-kept, clear-done-kept, note-authority-done-kept, note-state-done-kept, spawn-done-kept, leave-done-kept, give-done-kept}
 
@@ -101,7 +101,7 @@ module _ (log : List ℕ) (t : Tables) where
   all-few =
       new-few ▸
       create-few (createOf (t .channels) (not (eqb (byteAt log 3) 0)) .answer) ▸
-      send-few (sendOf (t .channels) (idAt log 3) (messageAt log 7) .answer) ▸
+      send-few (sendOf (t .channels) (idAt log 3) (payloadAt log 7) (byteAt log 27) .answer) ▸
       recv-few (recvOf (t .channels) (idAt log 3) .answer) ▸
       park-few (parkOf (t .channels) (idAt log 3) (taskAt log 7) .answer) ▸
       queued-few (queuedOf (t .channels) (idAt log 3)) ▸

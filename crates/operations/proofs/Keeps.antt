@@ -29,7 +29,7 @@ module _ (log : List ℕ) (t : Tables) (s : Sound (t .channels)) where
 
   pub send-done-kept : Sound (sendDone log t .tables .channels)
   unfolding sendDone
-  send-done-kept = send-kept (t .channels) _ _ s
+  send-done-kept = send-kept (t .channels) _ _ _ s
 
   pub receive-done-kept : Sound (receiveDone log t .tables .channels)
   unfolding receiveDone

@@ -30,7 +30,7 @@ use Rattle.ipc_rules.specs.declared.answers.QueuedAnswer.{QueuedAnswer}
 use Rattle.ipc_rules.specs.declared.answers.HoldersAnswer.{HoldersAnswer}
 use Rattle.logread.specs.Little.{byteAt}
 use Rattle.operations.specs.Done.{Done, done, withChannels}
-use Rattle.operations.specs.Operands.{idAt, taskAt, messageAt, sizesAt}
+use Rattle.operations.specs.Operands.{idAt, taskAt, payloadAt, sizesAt}
 use Rattle.operations.specs.declared.Tables.{Tables}
 use Rattle.operations.specs.declared.fresh.Fresh.{Fresh}
 
@@ -82,9 +82,9 @@ newDone log t =
 unfoldable pub createDone : List ℕ → Tables → Done
 createDone log t = afterCreate t (createOf (t .channels) (not (eqb (byteAt log 3) 0)))
 
--- 2, send (id, tag, a, b)
+-- 2, send (id, tag, a, b, row)
 unfoldable pub sendDone : List ℕ → Tables → Done
-sendDone log t = afterSend t (sendOf (t .channels) (idAt log 3) (messageAt log 7))
+sendDone log t = afterSend t (sendOf (t .channels) (idAt log 3) (payloadAt log 7) (byteAt log 27))
 
 -- 3, receive (id)
 unfoldable pub receiveDone : List ℕ → Tables → Done

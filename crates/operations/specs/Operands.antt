@@ -3,7 +3,7 @@ use mathlib.Core.List.{List}
 use Prim.Native.Nat.{ℕ, _+_}
 use Rattle.cap.specs.declared.CapId.{CapId}
 use Rattle.ipc_rules.specs.State.{sizesOf}
-use Rattle.ipc_rules.specs.declared.state.Message.{Message}
+use Rattle.ipc_rules.specs.declared.state.Payload.{Payload}
 use Rattle.ipc_rules.specs.declared.state.Sizes.{Sizes}
 use Rattle.ipc_rules.specs.declared.state.TaskId.{TaskId}
 use Rattle.logread.specs.Little.{byteAt, littleAt}
@@ -16,9 +16,9 @@ idAt log at = record { raw = littleAt log at 4 }
 abbrev pub taskAt : List ℕ → ℕ → TaskId
 taskAt log at = record { slot = littleAt log at 2; epoch = littleAt log (at + 2) 2 }
 
--- the message at a place, tag, a and b
-abbrev pub messageAt : List ℕ → ℕ → Message
-messageAt log at = record { tag = littleAt log at 4; a = littleAt log (at + 4) 8; b = littleAt log (at + 12) 8 }
+-- what a sender hands in at a place, tag, a and b
+abbrev pub payloadAt : List ℕ → ℕ → Payload
+payloadAt log at = record { tag = littleAt log at 4; a = littleAt log (at + 4) 8; b = littleAt log (at + 12) 8 }
 
 -- the sizes at a place, of mailboxes, endpoints and depth
 abbrev pub sizesAt : List ℕ → ℕ → Sizes

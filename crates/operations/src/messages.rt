@@ -6,7 +6,8 @@ ghost use Rattle.operations.specs.Channels.{sendDone, receiveDone, parkD
 use crate::Outcome;
 use crate::Tables;
 use crate::operands::id_at;
-use crate::operands::message_at;
+use crate::operands::index_at;
+use crate::operands::payload_at;
 use crate::operands::task_at;
 
 // 2.
@@ -14,7 +15,12 @@ pub fn op_send(mut t: Tables, log: &[u8]) -> Outcome
     requires { ⌜ Sound (t .channels) ⌝ }
     ensures { λ r. ⌜ r ≡ packed (sendDone (now (log .entry)) t) ⌝ }
 {
-    let sent = ipc_queue::inner::send(t.channels, id_at(log, 3), message_at(log, 7));
+    let sent = ipc_queue::inner::send(
+        t.channels,
+        id_at(log, 3),
+        payload_at(log, 7),
+        index_at(log, 27),
+    );
     let answer = sent.answer;
     let channels = sent.table;
     t.channels = channels;

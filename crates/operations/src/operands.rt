@@ -2,9 +2,9 @@
 ghost use mathlib.Core.Path.{_≡_};
 ghost use Prim.Native.Nat.{_<_};
 ghost use Rattle.logread.specs.Little.{byteAt};
-ghost use Rattle.operations.specs.Operands.{idAt, taskAt, messageAt, sizesAt};
+ghost use Rattle.operations.specs.Operands.{idAt, taskAt, payloadAt, sizesAt};
 use cap::CapId;
-use ipc_rules::state::Message;
+use ipc_rules::state::Payload;
 use ipc_rules::state::Sizes;
 use ipc_rules::state::TaskId;
 use logread::byte_at;
@@ -37,11 +37,11 @@ pub fn task_at(log: &[u8], at: usize) -> TaskId
     }
 }
 
-pub fn message_at(log: &[u8], at: usize) -> Message
+pub fn payload_at(log: &[u8], at: usize) -> Payload
     requires { ⌜ at < 64 ⌝ }
-    ensures { λ r. ⌜ r ≡ messageAt (now (log .entry)) at ⌝ }
+    ensures { λ r. ⌜ r ≡ payloadAt (now (log .entry)) at ⌝ }
 {
-    Message {
+    Payload {
         tag: u32_at(log, at),
         a: u64_at(log, at + 4),
         b: u64_at(log, at + 12),

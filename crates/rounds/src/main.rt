@@ -2,12 +2,15 @@
 // loop can be left out. `bench/calls` times it beside the Rust's.
 use cap::CapId;
 use ipc_rules::answers::RecvAnswer;
-use ipc_rules::state::Message;
+use ipc_rules::state::Payload;
 use ipc_rules::state::Table;
 use libc::STDIN_FILENO;
 use libc::STDOUT_FILENO;
 
 const ROUNDS: u64 = 1000000;
+
+// The sender's.
+const ROW: usize = 3;
 
 // A message in and out on a table that is known to be sound.
 fn interior(n: u64) -> u64 {
@@ -20,7 +23,7 @@ fn interior(n: u64) -> u64 {
     let mut sum: u64 = 0;
     let mut i: u64 = 0;
     while i < n {
-        let sent = ipc_queue::inner::send(t, send, Message { tag: 1, a: i, b: i });
+        let sent = ipc_queue::inner::send(t, send, Payload { tag: 1, a: i, b: i }, ROW);
         let between = sent.table;
         let got = ipc_queue::inner::try_recv(between, recv);
         let answer = got.answer;
@@ -45,7 +48,7 @@ fn border(n: u64) -> u64 {
     let mut sum: u64 = 0;
     let mut i: u64 = 0;
     while i < n {
-        let sent = ipc::send(t, send, Message { tag: 1, a: i, b: i });
+        let sent = ipc::send(t, send, Payload { tag: 1, a: i, b: i }, ROW);
         let between = sent.table;
         let got = ipc::try_recv(between, recv);
         let answer = got.answer;

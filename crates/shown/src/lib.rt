@@ -63,6 +63,16 @@ pub fn four(number: u8, a: u64, b: u64, c: u64, d: u64) -> Shown
     }
 }
 
+pub fn five(number: u8, a: u64, b: u64, c: u64, d: u64, e: u64) -> Shown
+    ensures { λ r. ⌜ r ≡ shown number (a ∷ b ∷ c ∷ d ∷ e ∷ []) ⌝ }
+{
+    Shown {
+        number,
+        values: [a, b, c, d, e, 0, 0, 0, 0, 0, 0, 0],
+        count: 5,
+    }
+}
+
 // One value more. There is no thirteenth.
 pub fn push(mut s: Shown, x: u64) -> Shown
     ensures { λ r. ⌜ r ≡ pushed s x ⌝ }

@@ -5,12 +5,10 @@ use mathlib.Core.List.{List, [], _∷_}
 use mathlib.Core.Logic.{_⊎_, inl, inr, ⊎-elim}
 use Prim.Native.Nat.{ℕ, _+_, _≤_, _<_}
 use native.Mathlib.Omega.{arith}
-use borrow.Author.Tests.{eqb-true}
-use lib.Dec.{eqb}
 use lib.ListN.{getD, length}
 use Rattle.laws.specs.Pick.{pick}
 use Rattle.laws.proofs.Bools.{same?, or-cases}
-use Rattle.laws.proofs.Cases.{all-pick, not-both}
+use Rattle.laws.proofs.Cases.{all-pick}
 use Rattle.cap.specs.Rights.{sendRight}
 use Rattle.cap.specs.Slot.{vacantSlot, holding}
 use Rattle.cap.specs.declared.CapId.{CapId}
@@ -31,19 +29,12 @@ use Rattle.ipc_rules.specs.declared.state.Channel.{Channel}
 use Rattle.ipc_rules.specs.declared.state.Table.{Table as Channels}
 use Rattle.ipc_rules.proofs.Held.{held-none}
 use Rattle.ipc_rules.proofs.OtherOpenings.{hold-is}
-use Rattle.isolation.proofs.Slots.{left-standing, same-held, never-vacant}
+use Rattle.isolation.proofs.Slots.{names-holding, left-standing, same-held, never-vacant}
 use Rattle.tally.specs.Count.{sumOver, overSlots}
 use Rattle.tally.specs.Runs.{CameFrom}
 use Rattle.tally.proofs.Sums.{sum-map, sum-same}
 use Rattle.tally.proofs.Tallied.{Tallied, held-vacant}
 use Rattle.tally.proofs.KeptSteps.{transfer-sum}
-
--- a slot that names an id holds it
-pub names-holding : (c : CapId) (y : Slot) → namesId c y ≡ true → y ≡ holding c
-unfolding pick
-names-holding c y = all-pick (λ b. b ≡ true → y ≡ holding c) (y .present) (eqb (y .id .raw) (c .raw)) false
-    (λ p e. let i : y .id ≡ c = ap (λ (n : ℕ). let d : CapId = record { raw = n } in d) (eqb-true (y .id .raw) (c .raw) e) in rw (← i, ← p))
-    (λ _ e. absurd (not-both false e refl))
 
 module _ {t : Channels} {rows : Rows} {l : List Channel} (x : Tallied t rows l) where
   -- ---- other rows in which each id stood in some slot, and as many slots hold each send end

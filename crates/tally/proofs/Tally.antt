@@ -33,7 +33,7 @@ use Rattle.ipc_rules.specs.declared.opening.Opening.the-variants.{Opens, Shut}
 use Rattle.ipc_rules.specs.declared.state.Channel.{Channel}
 use Rattle.ipc_rules.specs.declared.state.Endpoint.{Endpoint}
 use Rattle.ipc_rules.specs.declared.state.Mailbox.{Mailbox}
-use Rattle.ipc_rules.specs.declared.state.Message.{Message}
+use Rattle.ipc_rules.specs.declared.state.Payload.{Payload}
 use Rattle.ipc_rules.specs.declared.state.Sizes.{Sizes}
 use Rattle.ipc_rules.specs.declared.state.TaskId.{TaskId}
 use Rattle.ipc_rules.specs.declared.state.Table.{Table as Channels}
@@ -63,7 +63,7 @@ use Rattle.dispatcher_rules.specs.declared.answers.SlotParking.{SlotParking}
 use Rattle.dispatcher_rules.proofs.Binds.{bound-of}
 use Rattle.dispatcher_rules.proofs.Promises.{made-closed}
 use Rattle.dispatcher_rules.proofs.Ways.{all-slotted}
-use Rattle.isolation.proofs.Slots.{never-vacant}
+use Rattle.isolation.proofs.Slots.{names-holding, never-vacant}
 use Rattle.isolation.proofs.Still.{Still, send-still, recv-still, park-still}
 use Rattle.tally.specs.Count.{overSlots, slotsWith}
 use Rattle.tally.specs.Runs.{Among, as-send, as-recv, earlier, Made, last, before, ifCreated, ifOpened, Books, Step, spawn, leave, give, create, revoke, send, receive, park, clear, transfer, make, openFor, close, sendBy, receiveBy, parkBy, after, PutsCreated, start, Reached, fresh, then}
@@ -72,7 +72,7 @@ use Rattle.tally.proofs.Sums.{sum-agrees}
 use Rattle.tally.proofs.Tallied.{Tallied, few-slots}
 use Rattle.tally.proofs.KeptChannels.{kept-still, create-keeps, revoke-keeps}
 use Rattle.tally.proofs.KeptSteps.{give-keeps, leave-keeps, spawn-keeps, transfer-sum}
-use Rattle.tally.proofs.KeptJobs.{names-holding, transfer-keeps}
+use Rattle.tally.proofs.KeptJobs.{transfer-keeps}
 use Rattle.tally.proofs.KeptPlaces.{Places, Keeps, open-keeps, close-keeps}
 
 -- ---- transfer, for every id
@@ -104,11 +104,11 @@ module _ (b : Books) (x : Tallied (b .channels) (b .rows) (b .created)) (y : Pla
   abbrev t : Channels
   t = b .channels
 
-  send-slot : (r s : ℕ) (m : Message) → let o = slotSendOf (b .dispatcher) (b .rows) t r s m in Tallied (o .channels) (o .rows) (b .created) × Places (o .dispatcher) (b .created)
+  send-slot : (r s : ℕ) (p : Payload) → let o = slotSendOf (b .dispatcher) (b .rows) t r s p in Tallied (o .channels) (o .rows) (b .created) × Places (o .dispatcher) (b .created)
   unfolding slotSendOf
-  send-slot r s m =
+  send-slot r s p =
       all-slotted (λ (o : SlotSending). Tallied (o .channels) (o .rows) (b .created) × Places (o .dispatcher) (b .created)) _ _ _ _ (λ _ _ _. (x, y)) (λ _ _. (x, y))
-      (λ c _. (kept-still x _ (send-kept t c m (x .sound)) (send-still t c (x .sound) m), y))
+      (λ c _. (kept-still x _ (send-kept t c p r (x .sound)) (send-still t c (x .sound) p r), y))
 
   receive-slot : (r s : ℕ) → let o = slotRecvOf (b .dispatcher) (b .rows) t r s in Tallied (o .channels) (o .rows) (b .created) × Places (o .dispatcher) (b .created)
   unfolding slotRecvOf
@@ -140,7 +140,7 @@ module _ (b : Books) (x : Tallied (b .channels) (b .rows) (b .created)) (y : Pla
   step (give r s c) f n = (give-keeps x r s c f, y)
   step (create e) f n = (create-keeps t (b .rows) (b .created) x e n, more (createOf t e .answer))
   step (revoke c) f n = (revoke-keeps t (b .rows) (b .created) x c, y)
-  step (send c m) f n = (kept-still x _ (send-kept t c m (x .sound)) (send-still t c (x .sound) m), y)
+  step (send c p row) f n = (kept-still x _ (send-kept t c p row (x .sound)) (send-still t c (x .sound) p row), y)
   step (receive c) f n = (kept-still x _ (recv-kept t c (x .sound)) (recv-still t c (x .sound)), y)
   step (park c task) f n = (kept-still x _ (park-kept t c task (x .sound)) (park-still t c (x .sound) task), y)
   step (clear task) f n = (kept-still x _ (clear-kept t task (x .sound)) (cleared-still t task (x .sound)), y)
@@ -148,7 +148,7 @@ module _ (b : Books) (x : Tallied (b .channels) (b .rows) (b .created)) (y : Pla
   step (make m vs) f n = (x, placed m vs)
   step (openFor tag e) f n = open-keeps t (b .rows) (b .dispatcher) (b .created) x y tag e n
   step (close p) f n = close-keeps t (b .rows) (b .dispatcher) (b .created) x y p
-  step (sendBy r s m) f n = send-slot r s m
+  step (sendBy r s p) f n = send-slot r s p
   step (receiveBy r s) f n = receive-slot r s
   step (parkBy r s task) f n = park-slot r s task
 
@@ -219,7 +219,7 @@ longer b (leave r) = omega arith
 longer b (give r s c) = omega arith
 longer b (create e) = longer-created (createOf (b .channels) e .answer) (b .created)
 longer b (revoke c) = omega arith
-longer b (send c m) = omega arith
+longer b (send c p row) = omega arith
 longer b (receive c) = omega arith
 longer b (park c task) = omega arith
 longer b (clear task) = omega arith
@@ -227,7 +227,7 @@ longer b (transfer r s r′ s′) = omega arith
 longer b (make n vs) = omega arith
 longer b (openFor tag x) = longer-opened (openJobOf (b .dispatcher) (b .rows) (b .channels) tag x .answer) (b .created)
 longer b (close p) = omega arith
-longer b (sendBy r s m) = omega arith
+longer b (sendBy r s p) = omega arith
 longer b (receiveBy r s) = omega arith
 longer b (parkBy r s task) = omega arith
 

@@ -20,7 +20,7 @@ use Rattle.ipc_rules.specs.Revoke.{revokeOf}
 use Rattle.ipc_rules.specs.Send.{sendOf}
 use Rattle.ipc_rules.specs.Waiters.{clearOf}
 use Rattle.ipc_rules.specs.declared.state.Channel.{Channel}
-use Rattle.ipc_rules.specs.declared.state.Message.{Message}
+use Rattle.ipc_rules.specs.declared.state.Payload.{Payload}
 use Rattle.ipc_rules.specs.declared.state.Sizes.{Sizes}
 use Rattle.ipc_rules.specs.declared.state.TaskId.{TaskId}
 use Rattle.ipc_rules.specs.declared.state.Table.{Table as Channels}
@@ -45,15 +45,15 @@ pub record Books : Type 0 where
   pub dispatcher : Dispatcher
   pub created : List Channel
 
--- a row and a list; a row; a row, a slot and an id; .. a transfer has from which row and slot to which; the last six are a dispatcher's, three
--- of them by row and slot
+-- a row and a list; a row; a row, a slot and an id; .. a send has an id, what is handed in and the sending row; a transfer has from which row
+-- and slot to which; the last six are a dispatcher's, three of them by row and slot
 pub data Step : Type 0 where
   spawn : ℕ → List ℕ → Step
   leave : ℕ → Step
   give : ℕ → ℕ → CapId → Step
   create : Bool → Step
   revoke : CapId → Step
-  send : CapId → Message → Step
+  send : CapId → Payload → ℕ → Step
   receive : CapId → Step
   park : CapId → TaskId → Step
   clear : TaskId → Step
@@ -61,7 +61,7 @@ pub data Step : Type 0 where
   make : ℕ → List Variant → Step
   openFor : Tag → ℕ → Step
   close : ℕ → Step
-  sendBy : ℕ → ℕ → Message → Step
+  sendBy : ℕ → ℕ → Payload → Step
   receiveBy : ℕ → ℕ → Step
   parkBy : ℕ → ℕ → TaskId → Step
 
@@ -98,7 +98,7 @@ after b (create ephemeral) =
     let o = createOf (b .channels) ephemeral in
     record { channels = o .table; rows = b .rows; dispatcher = b .dispatcher; created = ifCreated (o .answer) (b .created) }
 after b (revoke c) = withChannels b (revokeOf (b .channels) c .table)
-after b (send c m) = withChannels b (sendOf (b .channels) c m .table)
+after b (send c p row) = withChannels b (sendOf (b .channels) c p row .table)
 after b (receive c) = withChannels b (recvOf (b .channels) c .table)
 after b (park c task) = withChannels b (parkOf (b .channels) c task .table)
 after b (clear task) = withChannels b (clearOf (b .channels) task .table)
@@ -110,8 +110,8 @@ after b (openFor tag x) =
 after b (close p) =
     let o = closeJobOf (b .dispatcher) (b .rows) (b .channels) p in
     record { channels = o .channels; rows = o .rows; dispatcher = o .dispatcher; created = b .created }
-after b (sendBy r s m) =
-    let o = slotSendOf (b .dispatcher) (b .rows) (b .channels) r s m in
+after b (sendBy r s p) =
+    let o = slotSendOf (b .dispatcher) (b .rows) (b .channels) r s p in
     record { channels = o .channels; rows = o .rows; dispatcher = o .dispatcher; created = b .created }
 after b (receiveBy r s) =
     let o = slotRecvOf (b .dispatcher) (b .rows) (b .channels) r s in
@@ -145,7 +145,7 @@ PutsCreated b (leave r) = Unit
 PutsCreated b (give r s c) = giveOf (b .channels) (b .rows) r s c .answer ≡ Given → CameFrom (b .created) c
 PutsCreated b (create ephemeral) = Unit
 PutsCreated b (revoke c) = Unit
-PutsCreated b (send c m) = Unit
+PutsCreated b (send c p row) = Unit
 PutsCreated b (receive c) = Unit
 PutsCreated b (park c task) = Unit
 PutsCreated b (clear task) = Unit
@@ -153,7 +153,7 @@ PutsCreated b (transfer r s r′ s′) = Unit
 PutsCreated b (make n vs) = Unit
 PutsCreated b (openFor tag x) = Unit
 PutsCreated b (close p) = Unit
-PutsCreated b (sendBy r s m) = Unit
+PutsCreated b (sendBy r s p) = Unit
 PutsCreated b (receiveBy r s) = Unit
 PutsCreated b (parkBy r s task) = Unit
 

@@ -3,12 +3,12 @@
 
 use super::dispatcher::Job;
 use super::variants::{Variant, shown};
-use crate::ipc::Message;
+use crate::stamps::Stamped;
 use std::collections::VecDeque;
 
 struct Sentence {
     job: Job,
-    message: Message,
+    sent: Stamped,
 }
 
 /// By mailbox, the oldest first.
@@ -16,25 +16,25 @@ struct Sentence {
 pub struct Accepted([VecDeque<Sentence>; 32]);
 
 impl Accepted {
-    pub fn put(&mut self, mailbox: usize, job: Job, message: Message) {
-        self.0[mailbox].push_back(Sentence { job, message });
+    pub fn put(&mut self, mailbox: usize, job: Job, sent: Stamped) {
+        self.0[mailbox].push_back(Sentence { job, sent });
     }
 
     /// The oldest message of a mailbox comes out at a row.
     pub fn given(
         &mut self,
         mailbox: usize,
-        message: Message,
+        given: Stamped,
         row: usize,
         bound: &[Variant],
     ) -> Result<(), String> {
-        let Some(Sentence { job, message: sent }) = self.0[mailbox].pop_front() else {
-            return Err(format!("row {row} is given {message:?}, which nobody sent"));
+        let Some(Sentence { job, sent }) = self.0[mailbox].pop_front() else {
+            return Err(format!("row {row} is given {given:?}, which nobody sent"));
         };
         let (number, tag) = (job.number, shown(job.tag));
-        if sent != message {
+        if sent != given {
             return Err(format!(
-                "job {number} ({tag}) was sent {sent:?}, and row {row} is given {message:?}"
+                "job {number} ({tag}) was sent {sent:?}, and row {row} is given {given:?}"
             ));
         }
         match bound.iter().find(|variant| variant.tag == job.tag) {

@@ -7,6 +7,7 @@ use crate::cap::CapId;
 use crate::ipc::Message;
 use crate::operations::{give, install};
 use crate::runqueue::TaskId;
+use crate::stamps::Stamped;
 use crate::tables::{ROWS, SLOTS, Tables};
 use std::collections::BTreeSet;
 
@@ -132,14 +133,17 @@ impl Jobs {
         (0, waiter(woken))
     }
 
+    /// The row of the call is the one that sends.
     pub fn send(&mut self, row: usize, slot: usize, message: Message) -> Result<Answer, String> {
         self.by_slot(row, slot, |jobs, id| {
-            let answer = jobs.tables.channels.send(id, message);
+            let row = u8::try_from(row).expect("a row that holds an id");
+            let sending = Stamped { message, row };
+            let answer = jobs.tables.channels.send(id, sending);
             if answer.is_ok() {
                 let job = jobs.places.iter().flatten().find(|job| job.send == id);
                 let job = job.ok_or("a message is accepted, and its job is not open")?;
                 let mailbox = jobs.tables.channels.mailbox_of(id);
-                jobs.accepted.put(mailbox, *job, message);
+                jobs.accepted.put(mailbox, *job, sending);
             }
             Ok(sent(answer))
         })
@@ -174,12 +178,12 @@ impl Jobs {
         }
     }
 
-    fn given(&mut self, id: CapId, message: Option<Message>, row: usize) -> Result<(), String> {
-        let Some(message) = message else {
+    fn given(&mut self, id: CapId, given: Option<Stamped>, row: usize) -> Result<(), String> {
+        let Some(given) = given else {
             return Ok(());
         };
         let mailbox = self.tables.channels.mailbox_of(id);
-        self.accepted.given(mailbox, message, row, &self.bound)
+        self.accepted.given(mailbox, given, row, &self.bound)
     }
 
     pub fn row(&self, row: usize) -> Answer {

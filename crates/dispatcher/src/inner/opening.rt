@@ -7,7 +7,7 @@ ghost use Rattle.dispatcher_rules.specs.Border.{Ready};
 use crate::binding::same_tag;
 use crate::inner::places::free_place;
 use crate::inner::places::with_job;
-use capslots::ROWS;
+use cap::ROWS;
 use capslots::Table as Rows;
 use dispatcher_rules::answers::JobOpening;
 use dispatcher_rules::answers::OpenAnswer;

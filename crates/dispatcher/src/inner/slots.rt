@@ -11,25 +11,25 @@ use dispatcher_rules::answers::SlotRecvAnswer;
 use dispatcher_rules::answers::SlotSendAnswer;
 use dispatcher_rules::answers::SlotSending;
 use dispatcher_rules::state::Dispatcher;
-use ipc_rules::state::Message;
+use ipc_rules::state::Payload;
 use ipc_rules::state::Table as Channels;
 use ipc_rules::state::TaskId;
 
-// Sends by the id in a slot.
+// Sends by the id in a slot; the message is stamped with the row.
 pub fn send(
     d: Dispatcher,
     rows: Rows,
     channels: Channels,
     row: usize,
     slot: usize,
-    msg: Message,
+    payload: Payload,
 ) -> SlotSending
     requires { ⌜ Sound channels ⌝ }
-    ensures { λ r. ⌜ r ≡ slotSendOf d rows channels row slot msg ⌝ }
+    ensures { λ r. ⌜ r ≡ slotSendOf d rows channels row slot payload ⌝ }
 {
     match capslots::get(rows, row, slot) {
         SlotAnswer::Names(id) => {
-            let sent = ipc_queue::inner::send(channels, id, msg);
+            let sent = ipc_queue::inner::send(channels, id, payload, row);
             let answer = sent.answer;
             let after = sent.table;
             SlotSending {

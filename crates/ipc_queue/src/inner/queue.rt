@@ -5,9 +5,11 @@ ghost use Rattle.ipc_rules.specs.Send.{sendOf};
 ghost use Rattle.ipc_rules.specs.Receive.{recvOf, parkOf};
 use cap::CapId;
 use cap::CapRights;
+use cap::ROWS;
 use ipc_parts::counts::raised;
 use ipc_parts::inner::drained;
 use ipc_parts::inner::filled;
+use ipc_parts::inner::stamped;
 use ipc_parts::opening::open;
 use ipc_parts::waiters::other_waits;
 use ipc_rules::answers::ParkAnswer;
@@ -19,16 +21,22 @@ use ipc_rules::answers::Sending;
 use ipc_rules::opening::Opening;
 use ipc_rules::state::MAX_DEPTH;
 use ipc_rules::state::MAX_ENDPOINTS;
-use ipc_rules::state::Message;
+use ipc_rules::state::Payload;
 use ipc_rules::state::Table;
 use ipc_rules::state::TaskId;
 use ipc_rules::state::Waiter;
 
-// Queues `msg` and answers the task to wake, if one was parked.
-pub fn send(mut t: Table, cap: CapId, msg: Message) -> Sending
+// Queues what the sender handed in, stamped with the row that the caller names, and answers the task to wake, if one was parked.
+pub fn send(mut t: Table, cap: CapId, payload: Payload, row: usize) -> Sending
     requires { ⌜ Sound t ⌝ }
-    ensures { λ r. ⌜ r ≡ sendOf t cap msg ⌝ }
+    ensures { λ r. ⌜ r ≡ sendOf t cap payload row ⌝ }
 {
+    if row >= ROWS {
+        return Sending {
+            answer: SendAnswer::BadRow,
+            table: t,
+        };
+    }
     let i = cap.index() as usize;
     let ep = t.endpoints[i % MAX_ENDPOINTS];
     let Opening::Opens(k) = open(i < t.sizes.endpoints, ep, cap, CapRights::SEND) else {
@@ -47,7 +55,7 @@ pub fn send(mut t: Table, cap: CapId, msg: Message) -> Sending
         };
     }
     let at = k * MAX_DEPTH + b.ring.head;
-    t.messages[at] = msg;
+    t.messages[at] = stamped(payload, row);
     t.mailboxes[k] = filled(b, t.sizes.depth);
     let woken = b.waiter;
     Sending {

@@ -29,13 +29,13 @@ send-requires : tie.Need-send-requires Inv-loop μ-loop
 send-requires c κs = c .before .loop .inv
 
 try-recv-requires : tie.Need-try-recv-requires Inv-loop μ-loop
-try-recv-requires c κs = rw (c .before .send .ensures) (send-kept _ _ _ (c .before .before .before .loop .inv))
+try-recv-requires c κs = rw (c .before .send .ensures) (send-kept _ _ _ _ (c .before .before .before .loop .inv))
 
 add-i : tie.Need-add-i Inv-loop μ-loop
 add-i c = omega (arith, c .before .before .before .before .before .loop-test .taken, c .before .before .before .before .before .before .before .before .before .before .before .before .before .fits .n)
 
 loop-again : tie.Need-loop-again Inv-loop μ-loop
-loop-again c = rw (c .before .before .try-recv .ensures) (recv-kept _ _ (rw (c .before .before .before .before .send .ensures) (send-kept _ _ _ (c .before .before .before .before .before .before .loop .inv))))
+loop-again c = rw (c .before .before .try-recv .ensures) (recv-kept _ _ (rw (c .before .before .before .before .send .ensures) (send-kept _ _ _ _ (c .before .before .before .before .before .before .loop .inv))))
 
 returns : tie.Need-returns Inv-loop μ-loop
 returns c = tt

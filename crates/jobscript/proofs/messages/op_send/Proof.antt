@@ -9,7 +9,7 @@ use Rattle.jobscript.proofs.messages.op_send.Tie as tie
 returns : tie.Need-returns
 unfolding sendDone
 returns c =
-    rw (← c .before .before .before .before .before .message .ensures, ← c .before .before .before .before .before .before .index-at2 .ensures, ← c .before .before .before .before .before .before .before .index-at .ensures)
+    rw (← c .before .before .before .before .before .payload .ensures, ← c .before .before .before .before .before .before .index-at2 .ensures, ← c .before .before .before .before .before .before .before .index-at .ensures)
     (packs afterSend (c .before .before .before .before .send .ensures) (c .shown .ensures))
 
 pub op-send-spec : {M : Type 1} → statement M

@@ -8,8 +8,11 @@ use Rattle.operations.proofs.messages.op_send.Tie as tie
 id-at-requires : tie.Need-id-at-requires
 id-at-requires c κs = search needs
 
-message-at-requires : tie.Need-message-at-requires
-message-at-requires c κs = search needs
+payload-at-requires : tie.Need-payload-at-requires
+payload-at-requires c κs = search needs
+
+index-at-requires : tie.Need-index-at-requires
+index-at-requires c κs = search needs
 
 send-requires : tie.Need-send-requires
 send-requires c κs = search needs
@@ -20,15 +23,16 @@ shown-requires c κs = search needs
 returns : tie.Need-returns
 unfolding sendDone
 returns c =
-    rw (← c .before .before .before .message-at .ensures, ← c .before .before .before .before .id-at .ensures)
-    (packs (afterSend (c .before .before .before .before .before .before .args .t)) (c .before .before .send .ensures) (c .shown .ensures))
+    rw (← c .before .before .before .index-at .ensures, ← c .before .before .before .before .payload-at .ensures, ← c .before .before .before .before .before .id-at .ensures)
+    (packs (afterSend (c .before .before .before .before .before .before .before .args .t)) (c .before .before .send .ensures) (c .shown .ensures))
 
 pub op-send-spec : {M : Type 1} → statement M
 op-send-spec =
     tie.close
     (tie.spec
     id-at-requires
-    message-at-requires
+    payload-at-requires
+    index-at-requires
     send-requires
     shown-requires
     returns)

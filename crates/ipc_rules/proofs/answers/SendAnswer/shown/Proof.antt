@@ -1,21 +1,24 @@
 -- `ipc_rules::answers::SendAnswer::shown` meets its contract. Assumes nothing.
-use mathlib.Core.List.{[], _∷_}
-use types.Run.{miss}
-use Rattle.laws.proofs.Together.{_·_, _·³_}
-use Rattle.shown.proofs.Shows.{shows}
-use Rattle.ipc_rules.proofs.Shows.{send-none}
+use Rattle.laws.proofs.Together.{_·_, _·¹⁰_}
 use borrow.Author.Needs.{needs}
 use Rattle.ipc_rules.proofs.answers.SendAnswer.shown.Statement.{statement}
 use Rattle.ipc_rules.proofs.answers.SendAnswer.shown.Tie as tie
 
 returns : tie.Need-returns
-returns c =
-    shows (c .none .ensures) (c .before .number .ensures)
-    (send-none (c .before .before .before .args .self) (λ _ e. miss (1 ∷ 2 ∷ 3 ∷ []) 0 tt (rw e at (c .before .before .match .keys2))))
+returns c = rw (c .before .before .self .given .1) (c .waiter-shown .ensures)
 
 returns-2 : tie.Need-returns-2
-returns-2 c = rw (c .before .before .self .given .1) (c .waiter-shown .ensures)
+returns-2 c = rw (c .before .enum-told .given .1) (c .none .ensures)
+
+returns-3 : tie.Need-returns-3
+returns-3 c = rw (c .before .enum-told2 .given .1) (c .none2 .ensures)
+
+returns-4 : tie.Need-returns-4
+returns-4 c = rw (c .before .enum-told3 .given .1) (c .none3 .ensures)
+
+returns-5 : tie.Need-returns-5
+returns-5 c = rw (c .before .enum-told4 .given .1) (c .none4 .ensures)
 
 pub shown-spec : {M : Type 1} → statement M
 shown-spec =
-    tie.close (tie.spec ·³ (search needs) · returns · (search needs) · returns-2)
+    tie.close (tie.spec ·¹⁰ (search needs) · returns · returns-2 · returns-3 · returns-4 · returns-5)

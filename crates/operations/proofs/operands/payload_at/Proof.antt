@@ -1,8 +1,8 @@
--- `operations::operands::message_at` meets its contract. Assumes nothing.
+-- `operations::operands::payload_at` meets its contract. Assumes nothing.
 use mathlib.Core.Path.{refl}
 use borrow.Author.Needs.{needs}
-use Rattle.operations.proofs.operands.message_at.Statement.{statement}
-use Rattle.operations.proofs.operands.message_at.Tie as tie
+use Rattle.operations.proofs.operands.payload_at.Statement.{statement}
+use Rattle.operations.proofs.operands.payload_at.Tie as tie
 
 u32-at-requires : tie.Need-u32-at-requires
 u32-at-requires c κs = search needs
@@ -22,7 +22,7 @@ u64-at-requires-2 c κs = search needs
 returns : tie.Need-returns
 returns c = rw (← c .u64-at2 .ensures, ← c .before .u64-at .ensures, ← c .before .before .u32-at .ensures) refl
 
-pub message-at-spec : {M : Type 1} → statement M
-message-at-spec =
+pub payload-at-spec : {M : Type 1} → statement M
+payload-at-spec =
     tie.close
     (tie.spec u32-at-requires add-u64-at u64-at-requires add-u64-at-2 u64-at-requires-2 returns)
