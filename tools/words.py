@@ -24,6 +24,15 @@ REFUSALS = {
     29: "NoVariant", 30: "JobsFull", 37: "BadVariants", 38: "NoJob",
 }  # fmt: skip
 
+# Why an id did not open, by operation and by the reason that ends the line. No end lacks both rights, so queued has three.
+EITHER = {
+    1: "the table has no such index", 2: "no channel lives at this index, revoked or not yet made",
+    3: "the channel there has another generation",
+}  # fmt: skip
+SEND_END = {**EITHER, 4: "the id is the channel's receive end, which does not send"}
+RECEIVE_END = {**EITHER, 4: "the id is the channel's send end, which does not receive"}
+REASONS = {2: SEND_END, 3: RECEIVE_END, 4: RECEIVE_END, 5: EITHER}
+
 # The count that a refusal raises, by operation and number.
 RAISED = {(2, 1): "authority", (3, 1): "authority", (4, 1): "authority", (6, 1): "authority", (2, 2): "full", (4, 4): "state"}
 
@@ -97,13 +106,24 @@ def refusal(number):
 
 
 def refused(operation, number, values):
-    said = f"refused, {refusal(number)}"
-    if number == 8:
-        said += f": slot {values[0]} of {values[1]}" if values[1] else f": slot {values[0]} of a row that is not there"
-    if number == 9:
-        said += f": slot {values[0]}"
     count = RAISED.get((operation, number))
-    return said + (f"; counted under {count}" if count else "")
+    return f"refused, {refusal(number)}" + because(operation, number, *values) + (f"; counted under {count}" if count else "")
+
+
+def because(operation, number, *values):
+    """What the values of a refused operation say; another number of them than it has is no line."""
+    if number == 8:
+        slot, slots = values
+        return f": slot {slot} of {slots}" if slots else f": slot {slot} of a row that is not there"
+    if number == 9:
+        (slot,) = values
+        return f": slot {slot}"
+    if number == 1 and operation in REASONS:
+        (reason,) = values
+        return f": {REASONS[operation][reason]}"
+    if values:
+        raise ValueError
+    return ""
 
 
 def accepted(operation, values):

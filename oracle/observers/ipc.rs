@@ -20,13 +20,11 @@ impl<const MAILBOXES: usize, const ENDPOINTS: usize, const DEPTH: usize>
     }
 
     pub fn endpoints(&self) -> Vec<crate::views::Endpoint> {
-        let show = |e: &Endpoint| crate::views::Endpoint {
-            live: e.live,
-            generation: e.generation,
-            rights: e.rights.bits(),
-            mailbox: e.mailbox,
-        };
-        self.endpoints.iter().map(show).collect()
+        self.endpoints.iter().map(Endpoint::shown).collect()
+    }
+
+    pub fn endpoint(&self, index: usize) -> Option<crate::views::Endpoint> {
+        self.endpoints.get(index).map(Endpoint::shown)
     }
 
     pub fn mailbox_of(&self, endpoint: usize) -> usize {
@@ -49,6 +47,17 @@ impl<const MAILBOXES: usize, const ENDPOINTS: usize, const DEPTH: usize>
             mailboxes: self.mailboxes,
             next_gen: self.next_gen,
             refusals: self.refusals,
+        }
+    }
+}
+
+impl Endpoint {
+    fn shown(&self) -> crate::views::Endpoint {
+        crate::views::Endpoint {
+            live: self.live,
+            generation: self.generation,
+            rights: self.rights,
+            mailbox: self.mailbox,
         }
     }
 }

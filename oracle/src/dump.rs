@@ -71,7 +71,7 @@ fn endpoint(text: &mut String, i: usize, it: &Endpoint) {
     let numbers = [
         ("live", it.live.into()),
         ("generation", it.generation),
-        ("rights", it.rights.into()),
+        ("rights", it.rights.bits().into()),
         ("mailbox", it.mailbox.into()),
     ];
     fields(text, &format!("endpoint {i}"), &numbers);

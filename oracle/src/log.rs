@@ -2,6 +2,7 @@
 
 use crate::answers::{Answer, message};
 use crate::operations::apply;
+use crate::reasons::{asked, reason, told};
 use crate::records::{Operands, Played};
 use crate::tables::{ROWS, Tables};
 
@@ -32,7 +33,14 @@ impl Played for Tables {
         }
     }
 
+    /// What an operation answers by the Rust's calls and, where an id did not open,
+    /// the reason.
     fn apply(&mut self, operation: u8, operands: Operands) -> Result<Answer, String> {
-        apply(self, operation, operands)
+        let Some(rights) = asked(operation) else {
+            return apply(self, operation, operands);
+        };
+        let id = { operands }.id();
+        let reason = reason(&*self.channels, id, rights);
+        told(apply(self, operation, operands)?, reason)
     }
 }

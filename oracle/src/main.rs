@@ -16,6 +16,7 @@ mod kinds;
 mod log;
 mod operations;
 mod random;
+mod reasons;
 mod records;
 mod replay;
 mod rounds;

@@ -64,6 +64,8 @@ pub trait Channels {
     fn next_generation(&self) -> u16;
     fn mailboxes(&self) -> Vec<Mailbox>;
     fn endpoints(&self) -> Vec<Endpoint>;
+    /// The endpoint that an id's index names, if there is one.
+    fn endpoint_of(&self, id: CapId) -> Option<Endpoint>;
     /// The mailbox that the endpoint of an id names.
     fn mailbox_of(&self, id: CapId) -> usize;
     /// That mailbox and the ends of its ring; nothing where there is no such
@@ -142,6 +144,10 @@ impl<const M: usize, const E: usize, const D: usize> Channels for Table<M, E, D>
 
     fn endpoints(&self) -> Vec<Endpoint> {
         self.endpoints()
+    }
+
+    fn endpoint_of(&self, id: CapId) -> Option<Endpoint> {
+        self.endpoint(id.index().into())
     }
 
     fn mailbox_of(&self, id: CapId) -> usize {

@@ -1,5 +1,6 @@
 //! What the observers show of the Rust tables: private fields, copied out.
 
+use crate::cap::CapRights;
 use crate::ipc::Message;
 use crate::runqueue::TaskId;
 
@@ -24,7 +25,7 @@ pub struct Ring {
 pub struct Endpoint {
     pub live: bool,
     pub generation: u16,
-    pub rights: u8,
+    pub rights: CapRights,
     pub mailbox: u8,
 }
 

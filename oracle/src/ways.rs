@@ -9,12 +9,26 @@
 
 use crate::cap::{CapClass, CapId};
 use crate::coverage::{Covered, ONE, Ways};
+use crate::reasons::{DEAD, NO_RIGHT, OTHER_GENERATION, PAST_END, asked, has_one};
 use crate::records::Operands;
 use crate::tables::{ROWS, SLOTS, Tables};
 use crate::views::Entry;
 
+/// By the reason that ends the line. An id can fail more tests than the one that
+/// is told: a dead endpoint's generation may be another, and one of another
+/// generation may lack the right.
+#[rustfmt::skip]
+const SHUT: Ways = &[
+    "1 from e up", "1 from 64 up", "2 never made", "2 revoked", "2 and generation", "3 generation", "3 and right", "4 right",
+];
+/// Either right will do, and every live endpoint has one.
+#[rustfmt::skip]
+const SHUT_EITHER: Ways = &[
+    "1 from e up", "1 from 64 up", "2 never made", "2 revoked", "2 and generation", "3 generation",
+];
+/// Where the line does not tell the reason.
 const UNOPENED: Ways = &["past the table", "dead", "generation", "right"];
-/// Either right will do, and every endpoint has one.
+/// Any right will do.
 const NO_END: Ways = &["past the table", "dead", "generation"];
 const UNFOUND: Ways = &["class", "past the table", "dead", "generation"];
 const TAKEN: Ways = &["row", "slot", "occupied"];
@@ -35,10 +49,10 @@ impl Covered for Tables {
     const CAN: &'static [(&'static str, &'static [(u8, Ways)])] = &[
         ("new", &[(0, ONE), (20, REFUSED_SIZES)]),
         ("create", &[(0, &["lasting", "ephemeral"]), (6, ONE), (7, NO_ENDPOINT)]),
-        ("send", &[(0, SOME), (1, UNOPENED), (2, ONE)]),
-        ("receive", &[(0, SENDERS), (1, UNOPENED), (3, ONE)]),
-        ("park", &[(0, PARKED), (1, UNOPENED), (4, ONE), (5, ONE)]),
-        ("queued", &[(0, ONE), (1, NO_END)]),
+        ("send", &[(0, SOME), (1, SHUT), (2, ONE)]),
+        ("receive", &[(0, SENDERS), (1, SHUT), (3, ONE)]),
+        ("park", &[(0, PARKED), (1, SHUT), (4, ONE), (5, ONE)]),
+        ("queued", &[(0, ONE), (1, SHUT_EITHER)]),
         ("revoke", &[(0, SOME), (1, NO_END)]),
         ("register", &[(0, ONE)]),
         ("release", &[(0, WOKEN)]),
@@ -74,7 +88,8 @@ impl Covered for Tables {
             (2 | 6, 0) => amount(values[0]),
             (3, 0) => sender(values),
             (4, 0) => parked(values),
-            (2..=6 | 9, 1) => unopened(self, o.id()),
+            (2..=5, 1) => shut(self, operation, o.id(), values),
+            (6 | 9, 1) => unopened(self, o.id()),
             (8 | 24 | 25, 0) => woken(values),
             (10 | 21, 0) => amount(values[0]),
             (14, 0) if o.small() >= ROWS => "no such row",
@@ -182,6 +197,31 @@ fn woken(values: &[u64]) -> &'static str {
     // each waiter takes two values more than a place without one
     let names = ["none", "one", "two", "three", "four"];
     names[(values.len() - SLOTS) / 2]
+}
+
+/// Of the reason, beside the endpoint as it still is.
+fn shut(t: &Tables, operation: u8, id: CapId, values: &[u64]) -> &'static str {
+    let generation = id.generation();
+    let right = |it| asked(operation).is_some_and(|rights| has_one(it, rights));
+    match (values, t.channels.endpoint_of(id)) {
+        ([PAST_END], None) if id.index() < 64 => "1 from e up",
+        ([PAST_END], None) => "1 from 64 up",
+        ([DEAD], Some(it)) if !it.live => match it.generation {
+            0 => "2 never made",
+            same if same == generation => "2 revoked",
+            _ => "2 and generation",
+        },
+        ([OTHER_GENERATION], Some(it)) if it.live && it.generation != generation => {
+            match right(&it) {
+                true => "3 generation",
+                false => "3 and right",
+            }
+        }
+        ([NO_RIGHT], Some(it)) if it.live && it.generation == generation && !right(&it) => {
+            "4 right"
+        }
+        _ => "no such reason",
+    }
 }
 
 pub fn unopened(t: &Tables, id: CapId) -> &'static str {

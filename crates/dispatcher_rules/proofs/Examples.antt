@@ -84,17 +84,17 @@ opened = Opened (record { place = 0; send = idOf 0 1; recv = idOf 1 1 })
 
 -- the send id in the extractor's row, the receive id in the variant's
 pub two-rows : (first 0 .answer ≡ opened) × (slotIn (first 0 .rows) 0 0 ≡ slots.holding (idOf 0 1)) × (slotIn (first 0 .rows) 1 0 ≡ slots.holding (idOf 1 1))
-unfolding openJobOf creates givesBoth rowcalls.emptySlotOf rowcalls.installOf joins.giveOf joins.installs creations.createOf holds.registered openings.opened openings.holdOf openings.openingOf openings.openOf generations.nextGeneration raises.raised places.found places.lowestFree places.lowest picks.pick
+unfolding openJobOf creates givesBoth rowcalls.emptySlotOf rowcalls.installOf joins.giveOf joins.installs creations.createOf holds.registered openings.opened openings.holdOf openings.openingOf openings.openOf generations.nextGeneration raises.raised places.found places.lowestFree places.lowest picks.pick openings.attemptOf openings.told
 two-rows = (refl, refl, refl)
 
 -- both in one row, the second in the slot that the first leaves
 pub one-row : (first 1 .answer ≡ opened) × (slotIn (first 1 .rows) 1 0 ≡ slots.holding (idOf 0 1)) × (slotIn (first 1 .rows) 1 1 ≡ slots.holding (idOf 1 1))
-unfolding openJobOf creates givesBoth rowcalls.emptySlotOf rowcalls.installOf joins.giveOf joins.installs creations.createOf holds.registered openings.opened openings.holdOf openings.openingOf openings.openOf generations.nextGeneration raises.raised places.found places.lowestFree places.lowest picks.pick
+unfolding openJobOf creates givesBoth rowcalls.emptySlotOf rowcalls.installOf joins.giveOf joins.installs creations.createOf holds.registered openings.opened openings.holdOf openings.openingOf openings.openOf generations.nextGeneration raises.raised places.found places.lowestFree places.lowest picks.pick openings.attemptOf openings.told
 one-row = (refl, refl, refl)
 
 -- one hold on the channel, by the send id alone
 pub one-hold : observes.holdersOf (first 0 .channels) (idOf 0 1) ≡ Holders 1
-unfolding observes.holdersOf openJobOf creates givesBoth rowcalls.emptySlotOf rowcalls.installOf joins.giveOf joins.installs creations.createOf holds.registered openings.opened openings.holdOf openings.openingOf openings.openOf generations.nextGeneration raises.raised places.found places.lowestFree places.lowest picks.pick
+unfolding observes.holdersOf openJobOf creates givesBoth rowcalls.emptySlotOf rowcalls.installOf joins.giveOf joins.installs creations.createOf holds.registered openings.opened openings.holdOf openings.openingOf openings.openOf generations.nextGeneration raises.raised places.found places.lowestFree places.lowest picks.pick openings.attemptOf openings.told
 one-hold = refl
 
 -- ---- each refusal before the next: 29, 19, 30, 6, 7, 10. With 10 the table is as it was, its next generation too.
@@ -147,13 +147,13 @@ pub closing : JobClosing
 closing = closeJobOf (parking .dispatcher) (parking .rows) (parking .channels) 0
 
 pub no-second-channel : openJobOf (job .dispatcher) (job .rows) (job .channels) fr 0 .answer ≡ NoMailbox
-unfolding job openJobOf creates givesBoth rowcalls.emptySlotOf rowcalls.installOf joins.giveOf joins.installs creations.createOf holds.registered openings.opened openings.holdOf openings.openingOf openings.openOf generations.nextGeneration raises.raised places.found places.lowestFree places.lowest picks.pick
+unfolding job openJobOf creates givesBoth rowcalls.emptySlotOf rowcalls.installOf joins.giveOf joins.installs creations.createOf holds.registered openings.opened openings.holdOf openings.openingOf openings.openOf generations.nextGeneration raises.raised places.found places.lowestFree places.lowest picks.pick openings.attemptOf openings.told
 no-second-channel = refl
 
 pub task-parked : parking .answer ≡ Answered Parked
-unfolding job parking slotParkOf slotted rowcalls.getOf slots.fromSlot receives.parkOf openJobOf creates givesBoth rowcalls.emptySlotOf rowcalls.installOf joins.giveOf joins.installs creations.createOf holds.registered openings.opened openings.holdOf openings.openingOf openings.openOf generations.nextGeneration raises.raised places.found places.lowestFree places.lowest picks.pick
+unfolding job parking slotParkOf slotted rowcalls.getOf slots.fromSlot receives.parkOf openJobOf creates givesBoth rowcalls.emptySlotOf rowcalls.installOf joins.giveOf joins.installs creations.createOf holds.registered openings.opened openings.holdOf openings.openingOf openings.openOf generations.nextGeneration raises.raised places.found places.lowestFree places.lowest picks.pick openings.attemptOf openings.told
 task-parked = refl
 
 pub job-closed : (closing .answer ≡ Closed (waiting task)) × (closing .dispatcher ≡ freshDispatcher 2 variants) × (closing .rows ≡ freshTable)
-unfolding job parking closing closeJobOf endOf revokes.revokeOf openings.anyRightOf openings.openAny rowcalls.forgottenOf rowcalls.forgetIn slotParkOf slotted rowcalls.getOf slots.fromSlot receives.parkOf openJobOf creates givesBoth rowcalls.emptySlotOf rowcalls.installOf joins.giveOf joins.installs creations.createOf holds.registered openings.opened openings.holdOf openings.openingOf openings.openOf generations.nextGeneration raises.raised places.found places.lowestFree places.lowest picks.pick
+unfolding job parking closing closeJobOf endOf revokes.revokeOf openings.anyRightOf openings.openAny rowcalls.forgottenOf rowcalls.forgetIn slotParkOf slotted rowcalls.getOf slots.fromSlot receives.parkOf openJobOf creates givesBoth rowcalls.emptySlotOf rowcalls.installOf joins.giveOf joins.installs creations.createOf holds.registered openings.opened openings.holdOf openings.openingOf openings.openOf generations.nextGeneration raises.raised places.found places.lowestFree places.lowest picks.pick openings.attemptOf openings.told
 job-closed = (refl, refl, refl)

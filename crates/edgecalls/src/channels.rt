@@ -8,8 +8,12 @@ use edgescript::operands::rest;
 use edgescript::operands::size;
 use edgescript::operands::task;
 use edgescript::print;
+use ipc_rules::opening::Asked;
 use ipc_rules::state::Table;
 use logread::op;
+
+// Why an id opens nothing: 0 for send, 1 for receive, 2 for either, 3 for a revocation; the id.
+pub const WHY_SHUT: u8 = 105;
 
 // Where a script starts: sizes 0, 0, 1.
 pub fn fresh() -> Table {
@@ -107,6 +111,21 @@ pub fn holders(t: Table, w: &[u64]) {
     print::answer(a.shown());
 }
 
+// What an id is tried for, by a number.
+fn asked(n: u64) -> Asked {
+    match n {
+        0 => Asked::Send,
+        1 => Asked::Receive,
+        2 => Asked::Either,
+        _ => Asked::Revocation,
+    }
+}
+
+fn why_shut(t: Table, w: &[u64]) {
+    let a = ipc::why_shut(t, id(w, 1), asked(at(w, 0)));
+    print::answer(a.shown());
+}
+
 pub fn counts(t: Table) {
     let a = ipc::refusals(t);
     print::answer(a.shown());
@@ -135,6 +154,7 @@ pub fn look(op: u8, t: Table, w: &[u64]) {
         op::QUEUED => queued(t, w),
         op::HOLDERS => holders(t, w),
         op::COUNTS => counts(t),
+        WHY_SHUT => why_shut(t, w),
         broken::LOOK => broken::look(t.counters.next_gen, t.sizes),
         _ => {}
     }

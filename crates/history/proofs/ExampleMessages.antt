@@ -15,7 +15,7 @@ use Rattle.ipc_rules.specs.Create.{createOf}
 use Rattle.ipc_rules.specs.Send.{sendOf}
 use Rattle.ipc_rules.specs.Receive.{recvOf, parkOf}
 use Rattle.ipc_rules.specs.Revoke.{killed, wiped, revokeOf}
-use Rattle.ipc_rules.specs.Opening.{openOf, openAny, openingOf, anyRightOf, opened}
+use Rattle.ipc_rules.specs.Opening.{attemptOf, told, openOf, openAny, openingOf, anyRightOf, opened}
 use Rattle.ring.specs.Ring.{ringFrom}
 use Rattle.ipc_rules.specs.Views.{queueOf}
 use Rattle.ipc_rules.specs.declared.state.Message.{Message}
@@ -76,7 +76,7 @@ begun-reached : Reached begun
 begun-reached = reached-run (fresh (sizesOf 1 2 2) refl) opening
 
 two-accepted : AcceptedBehind begun 1 0 1 sender part₂ 6
-unfolding run step answer after onCreation ifCreated but createOf found lowest lowestFree nextGeneration sendOf openingOf openOf opened pick accepted ifSent leads queueOf ringFrom
+unfolding run step answer after onCreation ifCreated but createOf found lowest lowestFree nextGeneration sendOf openingOf openOf opened pick accepted ifSent leads queueOf ringFrom attemptOf told
 two-accepted = record { lives = record { live = refl; tenant = refl }; accepts = refl; others = refl }
 
 spared : Spares then-on 1 later
@@ -85,7 +85,7 @@ spared = more refl (more refl (more refl (more refl none)))
 
 -- what comes out, by computation
 all-come : allGiven then-on 1 later ≡ one ∷ two ∷ three ∷ []
-unfolding run step answer after onCreation ifCreated but createOf found lowest lowestFree nextGeneration sendOf recvOf parkOf openingOf openOf opened pick allGiven given byReceive byPark leads
+unfolding run step answer after onCreation ifCreated but createOf found lowest lowestFree nextGeneration sendOf recvOf parkOf openingOf openOf opened pick allGiven given byReceive byPark leads attemptOf told
 all-come = refl
 
 -- and message two in its turn, by the theorems
@@ -97,11 +97,11 @@ abbrev meanwhile : List Call
 meanwhile = receive receiver ∷ send sender part₃ 53 ∷ []
 
 one-came : length (allGiven then-on 1 meanwhile) ≡ 1
-unfolding run step answer after onCreation ifCreated but createOf found lowest lowestFree nextGeneration sendOf recvOf openingOf openOf opened pick allGiven given byReceive leads
+unfolding run step answer after onCreation ifCreated but createOf found lowest lowestFree nextGeneration sendOf recvOf openingOf openOf opened pick allGiven given byReceive leads attemptOf told
 one-came = refl
 
 park-gives : given (run then-on meanwhile) 1 (park receiver task) ≡ two ∷ []
-unfolding run step answer after onCreation ifCreated but createOf found lowest lowestFree nextGeneration sendOf recvOf parkOf openingOf openOf opened pick given byPark leads
+unfolding run step answer after onCreation ifCreated but createOf found lowest lowestFree nextGeneration sendOf recvOf parkOf openingOf openOf opened pick given byPark leads attemptOf told
 park-gives = refl
 
 pub two-once : Once begun then-on 1 0 two meanwhile (park receiver task) two
@@ -113,5 +113,5 @@ abbrev ended : List Call
 ended = revoke receiver ∷ receive receiver ∷ []
 
 pub revoked-first : (allGiven then-on 1 ended ≡ []) × (queueOf (run then-on ended .table) 0 ≡ [])
-unfolding run step answer after onCreation ifCreated but createOf found lowest lowestFree nextGeneration sendOf recvOf revokeOf killed wiped openingOf openOf anyRightOf openAny opened pick allGiven given byReceive leads queueOf ringFrom
+unfolding run step answer after onCreation ifCreated but createOf found lowest lowestFree nextGeneration sendOf recvOf revokeOf killed wiped openingOf openOf anyRightOf openAny opened pick allGiven given byReceive leads queueOf ringFrom attemptOf told
 revoked-first = (refl, refl)

@@ -20,7 +20,7 @@ use Rattle.joined.specs.Steps as joins
 use Rattle.logread.specs.Little as numbers
 use Rattle.logread.specs.Lists as lists
 use Rattle.operations.specs.Apply.{applyOf}
-use Rattle.operations.specs.Channels.{createDone, parkDone, holdersDone}
+use Rattle.operations.specs.Channels.{reasoned, createDone, parkDone, holdersDone}
 use Rattle.operations.specs.Joined.{spawnDone}
 use Rattle.history.specs.Operations.{Operation, Logged, operate, operated, beginning}
 use Rattle.history.specs.Lines.{lineIn}
@@ -55,5 +55,5 @@ pub record Computed : Type 0 where
   pub held-again : lineIn spawned looks ≡ 9 ∷ 0 ∷ 1 ∷ []
 
 pub computed : Computed
-unfolding operated operate applyOf createDone spawnDone parkDone holdersDone createOf parkOf holdersOf joins.spawnOf rowcalls.seedOf rowcalls.drainOf holds.registeredAll holds.registered holds.releaseOf holds.releasedAll holds.released waiterValues words.readWord words.wordOf words.orVacant everys.every lists.listSlot numbers.littleAt places.found places.lowestFree places.lowest picks.pick openings.opened openings.openingOf openings.openOf openings.holdOf generations.nextGeneration raises.raised
+unfolding operated operate applyOf reasoned createDone spawnDone parkDone holdersDone createOf parkOf holdersOf joins.spawnOf rowcalls.seedOf rowcalls.drainOf holds.registeredAll holds.registered holds.releaseOf holds.releasedAll holds.released waiterValues words.readWord words.wordOf words.orVacant everys.every lists.listSlot numbers.littleAt places.found places.lowestFree places.lowest picks.pick openings.opened openings.openingOf openings.openOf openings.holdOf generations.nextGeneration raises.raised openings.attemptOf openings.told
 computed = record { waits-at-first = refl; names-task = refl; held-again = refl }

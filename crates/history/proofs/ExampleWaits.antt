@@ -20,7 +20,7 @@ use Rattle.ipc_rules.specs.Receive.{recvOf, parkOf}
 use Rattle.ipc_rules.specs.Holds.{fourOf, registered, registeredAll, registerOf, released, releasedAll, releaseOf}
 use Rattle.ipc_rules.specs.Revoke.{killed, wiped, revokeOf}
 use Rattle.ipc_rules.specs.Waiters.{withoutWaiter, clearOf}
-use Rattle.ipc_rules.specs.Opening.{openOf, openAny, opened, openingOf, anyRightOf, holdOf}
+use Rattle.ipc_rules.specs.Opening.{attemptOf, told, openOf, openAny, opened, openingOf, anyRightOf, holdOf}
 use Rattle.ipc_rules.specs.Views.{heldBy, heldIn}
 use Rattle.ipc_rules.specs.declared.state.Payload.{Payload}
 use Rattle.ipc_rules.specs.declared.state.TaskId.{TaskId}
@@ -139,7 +139,7 @@ record Computed : Type 0 where
   pub other-names : says both (call.send sender₂ hello 5) ≡ call.sent (send.the-variants.Sent (waiting task₂))
 
 computed : Computed
-unfolding answer after step run onCreation ifCreated but createOf sendOf recvOf parkOf registerOf registeredAll registered releaseOf releasedAll released revokeOf killed wiped clearOf withoutWaiter openingOf openOf openAny holdOf anyRightOf opened pick found lowest lowestFree every count slotsOf orVacant readWord nextGeneration raised heldBy heldIn leads ends takesLast waitsEnded turnOf
+unfolding answer after step run onCreation ifCreated but createOf sendOf recvOf parkOf registerOf registeredAll registered releaseOf releasedAll released revokeOf killed wiped clearOf withoutWaiter openingOf openOf openAny holdOf anyRightOf opened pick found lowest lowestFree every count slotsOf orVacant readWord nextGeneration raised heldBy heldIn leads ends takesLast waitsEnded turnOf attemptOf told
 computed =
     record {
       parks = refl;

@@ -37,5 +37,5 @@ pub told :
     (create false ∷ send (idOf 0 1) p 0 ∷ queued (idOf 1 1) ∷ revoke (idOf 0 1) ∷ send (idOf 0 1) p 0 ∷ create false ∷ send (idOf 0 1) p 0 ∷ queued (idOf 0 2) ∷ [])
     ≡ (created (Created (record { send = idOf 0 1; recv = idOf 1 1 })) ∷ sent (Sent nobody) ∷ measured (Queued 1) ∷ revoked (Revoked nobody) ∷ sent BadCap
     ∷ created (Created (record { send = idOf 0 2; recv = idOf 1 2 })) ∷ sent BadCap ∷ measured (Queued 0) ∷ [])
-unfolding answers step answer after onCreation ifCreated createOf sendOf queuedOf revocations.revokeOf revocations.killed revocations.wiped places.found places.lowestFree places.lowest picks.pick openings.opened openings.openingOf openings.openOf openings.eitherOf openings.openEither openings.anyRightOf openings.openAny generations.nextGeneration raises.raised
+unfolding answers step answer after onCreation ifCreated createOf sendOf queuedOf revocations.revokeOf revocations.killed revocations.wiped places.found places.lowestFree places.lowest picks.pick openings.opened openings.openingOf openings.openOf openings.eitherOf openings.openEither openings.anyRightOf openings.openAny generations.nextGeneration raises.raised openings.attemptOf openings.told
 told = refl

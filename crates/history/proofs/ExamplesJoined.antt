@@ -72,5 +72,5 @@ pub joined-answers :
     answers (start (sizesOf 1 2 1)) calls
     ≡ (created (Created (record { send = idOf 0 1; recv = idOf 1 1 })) ∷ released Released nobodies ∷ registered Registered ∷ parked Parked
     ∷ released Released named ∷ registered Registered ∷ parked Parked ∷ released Released named ∷ [])
-unfolding answers step answer after onCreation ifCreated createOf parkOf holds.registerOf holds.registeredAll holds.registered holds.releaseOf holds.releasedAll holds.released words.readWord words.orVacant words.slotsOf everys.every places.found places.lowestFree places.lowest picks.pick openings.opened openings.openingOf openings.openOf openings.holdOf generations.nextGeneration raises.raised
+unfolding answers step answer after onCreation ifCreated createOf parkOf holds.registerOf holds.registeredAll holds.registered holds.releaseOf holds.releasedAll holds.released words.readWord words.orVacant words.slotsOf everys.every places.found places.lowestFree places.lowest picks.pick openings.opened openings.openingOf openings.openOf openings.holdOf generations.nextGeneration raises.raised openings.attemptOf openings.told
 joined-answers = refl

@@ -13,7 +13,7 @@ use Rattle.ipc_rules.specs.Receive.{recvOf, parkOf}
 use Rattle.ipc_rules.specs.Opening as openings
 use Rattle.logread.specs.Little as numbers
 use Rattle.operations.specs.Apply.{applyOf}
-use Rattle.operations.specs.Channels.{createDone, sendDone, receiveDone, parkDone}
+use Rattle.operations.specs.Channels.{reasoned, createDone, sendDone, receiveDone, parkDone}
 use Rattle.history.specs.Operations.{Operation, Logged, operate, operated, beginning}
 use Rattle.history.specs.Lines.{lineIn}
 use Rattle.history.specs.LogIds.{creation}
@@ -53,7 +53,7 @@ record Computed : Type 0 where
   pub shows-message : lineIn sent receives ≡ 3 ∷ 0 ∷ 7 ∷ 1 ∷ 2 ∷ 3 ∷ []
 
 computed : Computed
-unfolding operated operate applyOf createDone sendDone receiveDone parkDone createOf sendOf recvOf parkOf waiterValues numbers.littleAt places.found places.lowestFree places.lowest picks.pick openings.opened openings.openingOf openings.openOf generations.nextGeneration
+unfolding operated operate applyOf reasoned createDone sendDone receiveDone parkDone createOf sendOf recvOf parkOf waiterValues numbers.littleAt places.found places.lowestFree places.lowest picks.pick openings.opened openings.openingOf openings.openOf generations.nextGeneration openings.attemptOf openings.told
 computed = record { shows-ids = refl; shows-none = refl; names-task = refl; shows-message = refl }
 
 -- and what the theorem says of the park

@@ -1,9 +1,9 @@
--- That joined steps and operations are calls, by a log and a sequence that are computed. Assumes nothing.
+-- That joined steps and operations are calls, by a log and a sequence that are computed; and line 7 of the log. Assumes nothing.
 use mathlib.Core.Path.{_≡_, refl}
 use mathlib.Core.Bool.{true}
 use mathlib.Core.List.{List, [], _∷_}
 use Prim.Native.Nat.{ℕ}
-use lib.ListN.{drop}
+use lib.ListN.{drop, take, getD}
 use Rattle.laws.specs.Pick as picks
 use Rattle.laws.specs.Search as places
 use Rattle.cap.specs.Id.{idOf}
@@ -14,6 +14,7 @@ use Rattle.ipc_rules.specs.Send.{sendOf}
 use Rattle.ipc_rules.specs.Receive.{recvOf, parkOf}
 use Rattle.ipc_rules.specs.Observe.{queuedOf}
 use Rattle.ipc_rules.specs.Opening as openings
+use Rattle.ipc_rules.specs.Why as whys
 use Rattle.ipc_rules.specs.Counts as raises
 use Rattle.ipc_rules.specs.Revoke as revocations
 use Rattle.ipc_rules.specs.declared.state.Message.{Message}
@@ -28,10 +29,13 @@ use Rattle.ipc_rules.specs.declared.answers.RefusalsAnswer.the-variants.{Counts
 use Rattle.logread.specs.Little as numbers
 use Rattle.logread.specs.Operands as operands
 use Rattle.logread.specs.Read as reads
+use Rattle.operations.specs.Apply.{applyOf}
+use Rattle.operations.specs.Channels.{reasoned, newDone, createDone, sendDone, receiveDone, parkDone, revokeDone}
 use Rattle.oplog.specs.Step as steps
 use Rattle.history.specs.Calls.{Call, create, send, receive, park, revoke, counts, created, sent, received, parked, revoked, counted, answer, after}
 use Rattle.history.specs.World.{ifCreated, onCreation, step, answers, start}
-use Rattle.history.specs.Operations.{Operation, callsOf, follow, operate, lasting, callsOver, beginning}
+use Rattle.history.specs.Operations.{Operation, callsOf, follow, operate, operated, lasting, callsOver, beginning}
+use Rattle.history.specs.Lines.{lineIn}
 use Rattle.history.specs.Log.{recordsIn, recordsOf}
 
 -- document 01's log, with the sending row, 3, as the last byte of its send (request No. 10)
@@ -87,5 +91,10 @@ pub sample-answers :
     answers (start (sizesOf 2 4 1)) calls
     ≡ (created (Created (record { send = idOf 0 1; recv = idOf 1 1 })) ∷ parked Cancelled ∷ sent (Sent nobody) ∷ parked (Given m) ∷ revoked (Revoked nobody) ∷ received BadCap
     ∷ counted (Counts (record { authority = 1; full = 0; state = 0 })) ∷ [])
-unfolding answers step answer after onCreation ifCreated createOf sendOf recvOf parkOf queuedOf revocations.revokeOf revocations.killed revocations.wiped places.found places.lowestFree places.lowest picks.pick openings.opened openings.openingOf openings.openOf openings.eitherOf openings.openEither openings.anyRightOf openings.openAny generations.nextGeneration raises.raised
+unfolding answers step answer after onCreation ifCreated createOf sendOf recvOf parkOf queuedOf revocations.revokeOf revocations.killed revocations.wiped places.found places.lowestFree places.lowest picks.pick openings.opened openings.openingOf openings.openOf openings.eitherOf openings.openEither openings.anyRightOf openings.openAny generations.nextGeneration raises.raised openings.attemptOf openings.told
 sample-answers = refl
+
+-- line 7, the receive on the revoked channel, ends with reason 2, dead (request No. 6)
+pub sample-line-7 : lineIn (operated beginning (take 6 (anew ∷ rest))) (getD (anew ∷ rest) 6 anew) ≡ 3 ∷ 1 ∷ 2 ∷ []
+unfolding operated operate applyOf reasoned newDone createDone sendDone receiveDone parkDone revokeDone recordsIn steps.reading operands.operandsOk reads.readOf reads.lengths reads.lengthOf numbers.littleAt createOf sendOf recvOf parkOf revocations.revokeOf revocations.killed revocations.wiped whys.whyOf whys.whyAnswer whys.triedOf whys.rightFor places.found places.lowestFree places.lowest picks.pick openings.opened openings.openingOf openings.openOf openings.anyRightOf openings.openAny generations.nextGeneration raises.raised openings.attemptOf openings.told
+sample-line-7 = refl

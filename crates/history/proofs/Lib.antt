@@ -14,10 +14,12 @@ pub mod Lent
 pub mod Sequences
 pub mod Along
 pub mod Operations
+pub mod Bare
 pub mod Lines
 pub mod LinesShow
 pub mod LinesName
 pub mod LogIds
+pub mod LogReasons
 pub mod LogMessages
 pub mod LogWaits
 pub mod Log
@@ -44,3 +46,4 @@ pub mod ExamplesJoined
 pub mod ExamplesLog
 pub mod ExamplesLines
 pub mod ExampleSpawns
+pub mod ExampleReasons

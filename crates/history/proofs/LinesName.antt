@@ -18,8 +18,10 @@ use Rattle.ipc_rules.specs.Sound.{Sound}
 use Rattle.ipc_rules.specs.State.{mailboxLive}
 use Rattle.ipc_rules.specs.Views.{waiterOf}
 use Rattle.ipc_rules.specs.Waiters.{clearOf}
+use Rattle.ipc_rules.specs.Why.{whyOf}
 use Rattle.ipc_rules.specs.declared.state.TaskId.{TaskId}
 use Rattle.ipc_rules.specs.declared.state.Table.{Table}
+use Rattle.ipc_rules.specs.declared.opening.Asked.the-variants.{Send}
 use Rattle.ipc_rules.specs.declared.answers.Registering.{Registering}
 use Rattle.ipc_rules.proofs.AfterRegister as registers
 use Rattle.joined.specs.Answers.{spawnNumber, spawnValues, leaveNumber, leaveValues}
@@ -32,7 +34,7 @@ use Rattle.joined.specs.declared.answers.LeaveAnswer.the-variants.{Left, BadRow
 use Rattle.logread.specs.Little.{byteAt}
 use Rattle.logread.specs.Lists.{listSlots, listWords}
 use Rattle.operations.specs.Apply.{allDone, unknownDone, applyOf}
-use Rattle.operations.specs.Channels.{sendDone, revokeDone, clearDone}
+use Rattle.operations.specs.Channels.{reasoned, sendDone, revokeDone, clearDone}
 use Rattle.operations.specs.Done.{Done}
 use Rattle.operations.specs.Holds.{releaseDone}
 use Rattle.operations.specs.Joined.{spawnDone, leaveDone}
@@ -148,11 +150,11 @@ module _ (log : List ℕ) (t : Tables) where
 
   -- ---- the six that do
   sends : NamerAt 2 (sendDone log t) (send (idAt log 3) (payloadAt log 7) (byteAt log 27) ∷ [])
-  unfolding sendDone answer waiterValues pick
+  unfolding sendDone reasoned answer waiterValues pick
   sends = one _ _ (λ w n k x _. by k x)
     where
       by : (k : ℕ) (x : TaskId) → Told (t .channels) k x (send (idAt log 3) (payloadAt log 7) (byteAt log 27)) → Says (2 ∷ sendDone log t .number ∷ sendDone log t .values) k x
-      by k x (inl (by-send e)) = inl (send-line (ap (λ a. 2 ∷ numberOf a ∷ valuesOf a) e))
+      by k x (inl (by-send e)) = inl (send-line (ap (λ a. 2 ∷ numberOf a ∷ reasoned (whyOf (t .channels) (idAt log 3) Send) (numberOf a) (valuesOf a)) e))
 
   revokes : NamerAt 6 (revokeDone log t) (revoke (idAt log 3) ∷ [])
   unfolding revokeDone answer waiterValues pick

@@ -7,13 +7,14 @@ use native.Mathlib.Omega.{arith}
 use lib.Dec.{eqb}
 use Rattle.laws.specs.Pick.{pick}
 use Rattle.laws.proofs.Cases.{all-pick}
-use Rattle.ipc_rules.specs.Answers.{recvNumber, recvValues, parkNumber, parkValues}
+use Rattle.ipc_rules.specs.Answers.{messageValues, recvNumber, recvValues, parkNumber, parkValues}
 use Rattle.ipc_rules.specs.Receive.{recvOf, parkOf}
 use Rattle.ipc_rules.specs.declared.state.Message.{Message}
 use Rattle.ipc_rules.specs.declared.answers.RecvAnswer as recv
 use Rattle.ipc_rules.specs.declared.answers.ParkAnswer as park
+use Rattle.ipc_rules.specs.declared.answers.WhyAnswer.{WhyAnswer}
 use Rattle.operations.specs.Apply.{allDone, unknownDone, applyOf}
-use Rattle.operations.specs.Channels.{receiveDone, parkDone}
+use Rattle.operations.specs.Channels.{reasoned, receiveDone, parkDone}
 use Rattle.operations.specs.Done.{Done}
 use Rattle.operations.specs.Operands.{idAt, taskAt}
 use Rattle.operations.specs.declared.Tables.{Tables}
@@ -46,6 +47,15 @@ given-of true park.the-variants.BadCap x e = let z : _≡_ {A = ℕ} 0 1 = cc in
 given-of true park.the-variants.Busy x e = let z : _≡_ {A = ℕ} 0 1 = cc in absurd (omega arith)
 given-of true park.the-variants.Cancelled x e = let z : _≡_ {A = ℕ} 0 1 = cc in absurd (omega arith)
 given-of true park.the-variants.BadTable x e = let z : _≡_ {A = ℕ} 0 1 = cc in absurd (omega arith)
+
+-- and so in the line, which has no reason then
+received-line : (why : WhyAnswer) (a : recv.RecvAnswer) (x : Message) → a ≡ recv.the-variants.Received x → 3 ∷ recvNumber a ∷ reasoned why (recvNumber a) (recvValues a) ≡ 3 ∷ 0 ∷ messageValues x
+unfolding reasoned pick
+received-line why a x = ap (λ (a : recv.RecvAnswer). 3 ∷ recvNumber a ∷ reasoned why (recvNumber a) (recvValues a))
+
+given-line : (why : WhyAnswer) (a : park.ParkAnswer) (x : Message) → a ≡ park.the-variants.Given x → 4 ∷ parkNumber a ∷ reasoned why (parkNumber a) (parkValues a) ≡ 4 ∷ 0 ∷ 1 ∷ messageValues x
+unfolding reasoned pick
+given-line why a x = ap (λ (a : park.ParkAnswer). 4 ∷ parkNumber a ∷ reasoned why (parkNumber a) (parkValues a))
 
 -- ---- an operation that gives message x from channel n
 -- its line shows x, and it does nothing else to the channel
@@ -87,11 +97,11 @@ module _ (log : List ℕ) (t : Tables) where
 
   receives : GiverAt 3 (receiveDone log t) (receive (idAt log 3) ∷ [])
   unfolding given receiveDone
-  receives = alone _ _ (λ w e n x g. receive-line (ap (λ (a : recv.RecvAnswer). 3 ∷ recvNumber a ∷ recvValues a) (ap (λ u. recvOf u (idAt log 3) .answer) (sym e) ∙ received-of _ _ x g)))
+  receives = alone _ _ (λ w e n x g. receive-line (received-line _ _ x (ap (λ u. recvOf u (idAt log 3) .answer) (sym e) ∙ received-of _ _ x g)))
 
   parks : GiverAt 4 (parkDone log t) (park (idAt log 3) (taskAt log 7) ∷ [])
   unfolding given parkDone
-  parks = alone _ _ (λ w e n x g. park-line (ap (λ (a : park.ParkAnswer). 4 ∷ parkNumber a ∷ parkValues a) (ap (λ u. parkOf u (idAt log 3) (taskAt log 7) .answer) (sym e) ∙ given-of _ _ x g)))
+  parks = alone _ _ (λ w e n x g. park-line (given-line _ _ x (ap (λ u. parkOf u (idAt log 3) (taskAt log 7) .answer) (sym e) ∙ given-of _ _ x g)))
 
   -- a leave, a give
   joins : (line : List ℕ) (m : ℕ) (c : Call) → ((w : World) (n : ℕ) → given w n c ≡ []) → Giver line (ifAccepted m (c ∷ []))
@@ -145,29 +155,31 @@ gives s e o =
 
 -- ---- and back
 -- the message of a line is the answer's
-receive-shows : (a : recv.RecvAnswer) (m : Message) → recvNumber a ∷ recvValues a ≡ 0 ∷ m .tag ∷ m .a ∷ m .b ∷ m .row ∷ [] → a ≡ recv.the-variants.Received m
-receive-shows (recv.the-variants.Received x) m e =
+receive-shows : (why : WhyAnswer) (a : recv.RecvAnswer) (m : Message) → recvNumber a ∷ reasoned why (recvNumber a) (recvValues a) ≡ 0 ∷ m .tag ∷ m .a ∷ m .b ∷ m .row ∷ [] → a ≡ recv.the-variants.Received m
+unfolding reasoned pick
+receive-shows why (recv.the-variants.Received x) m e =
     let p : x .tag ≡ m .tag = cc in
     let q : x .a ≡ m .a = cc in
     let r : x .b ≡ m .b = cc in
     let s : x .row ≡ m .row = cc in
     λ i. recv.the-variants.Received (record { tag = p i; row = s i; a = q i; b = r i })
-receive-shows recv.the-variants.BadCap m e = let z : _≡_ {A = ℕ} 0 1 = cc in absurd (omega arith)
-receive-shows recv.the-variants.Empty m e = let z : _≡_ {A = ℕ} 0 1 = cc in absurd (omega arith)
-receive-shows recv.the-variants.BadTable m e = let z : _≡_ {A = ℕ} 0 1 = cc in absurd (omega arith)
+receive-shows why recv.the-variants.BadCap m e = let z : _≡_ {A = ℕ} 0 1 = cc in absurd (omega arith)
+receive-shows why recv.the-variants.Empty m e = let z : _≡_ {A = ℕ} 0 1 = cc in absurd (omega arith)
+receive-shows why recv.the-variants.BadTable m e = let z : _≡_ {A = ℕ} 0 1 = cc in absurd (omega arith)
 
-park-shows : (a : park.ParkAnswer) (m : Message) → parkNumber a ∷ parkValues a ≡ 0 ∷ 1 ∷ m .tag ∷ m .a ∷ m .b ∷ m .row ∷ [] → a ≡ park.the-variants.Given m
-park-shows (park.the-variants.Given x) m e =
+park-shows : (why : WhyAnswer) (a : park.ParkAnswer) (m : Message) → parkNumber a ∷ reasoned why (parkNumber a) (parkValues a) ≡ 0 ∷ 1 ∷ m .tag ∷ m .a ∷ m .b ∷ m .row ∷ [] → a ≡ park.the-variants.Given m
+unfolding reasoned pick
+park-shows why (park.the-variants.Given x) m e =
     let p : x .tag ≡ m .tag = cc in
     let q : x .a ≡ m .a = cc in
     let r : x .b ≡ m .b = cc in
     let s : x .row ≡ m .row = cc in
     λ i. park.the-variants.Given (record { tag = p i; row = s i; a = q i; b = r i })
-park-shows park.the-variants.Parked m e = let z : _≡_ {A = ℕ} 0 1 = cc in absurd (omega arith)
-park-shows park.the-variants.BadCap m e = let z : _≡_ {A = ℕ} 0 1 = cc in absurd (omega arith)
-park-shows park.the-variants.Busy m e = let z : _≡_ {A = ℕ} 0 1 = cc in absurd (omega arith)
-park-shows park.the-variants.Cancelled m e = let z : _≡_ {A = ℕ} 0 1 = cc in absurd (omega arith)
-park-shows park.the-variants.BadTable m e = let z : _≡_ {A = ℕ} 0 1 = cc in absurd (omega arith)
+park-shows why park.the-variants.Parked m e = let z : _≡_ {A = ℕ} 0 1 = cc in absurd (omega arith)
+park-shows why park.the-variants.BadCap m e = let z : _≡_ {A = ℕ} 0 1 = cc in absurd (omega arith)
+park-shows why park.the-variants.Busy m e = let z : _≡_ {A = ℕ} 0 1 = cc in absurd (omega arith)
+park-shows why park.the-variants.Cancelled m e = let z : _≡_ {A = ℕ} 0 1 = cc in absurd (omega arith)
+park-shows why park.the-variants.BadTable m e = let z : _≡_ {A = ℕ} 0 1 = cc in absurd (omega arith)
 
 module _ (s : Logged) (f : Follows s) (bytes : List ℕ) (m : Message) where
   abbrev op : ℕ → Operation
@@ -176,13 +188,13 @@ module _ (s : Logged) (f : Follows s) (bytes : List ℕ) (m : Message) where
   receive-gives : lineIn s (op 3) ≡ 3 ∷ 0 ∷ m .tag ∷ m .a ∷ m .b ∷ m .row ∷ [] → SomeShows s (op 3) m
   unfolding applyOf receiveDone callsOf allGiven
   receive-gives e =
-      let g = each-received (s .world) (f .reached) (idAt bytes 3) m (rw (f .channels) (receive-shows _ m (same-rest e))) in
+      let g = each-received (s .world) (f .reached) (idAt bytes 3) m (rw (f .channels) (receive-shows _ _ m (same-rest e))) in
       record { number = g .number; is = append-nil _ ∙ g .is }
 
   park-gives : lineIn s (op 4) ≡ 4 ∷ 0 ∷ 1 ∷ m .tag ∷ m .a ∷ m .b ∷ m .row ∷ [] → SomeShows s (op 4) m
   unfolding applyOf parkDone callsOf allGiven
   park-gives e =
-      let g = each-given (s .world) (f .reached) (idAt bytes 3) (taskAt bytes 7) m (rw (f .channels) (park-shows _ m (same-rest e))) in
+      let g = each-given (s .world) (f .reached) (idAt bytes 3) (taskAt bytes 7) m (rw (f .channels) (park-shows _ _ m (same-rest e))) in
       record { number = g .number; is = append-nil _ ∙ g .is }
 
   shown-gives : (number : ℕ) → ShowsMessage m (lineIn s (op number)) → SomeShows s (op number) m

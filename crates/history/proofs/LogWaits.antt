@@ -13,13 +13,16 @@ use Rattle.capslots.specs.Rows.{drainOf}
 use Rattle.ipc_rules.specs.Answers.{parkNumber, parkValues}
 use Rattle.ipc_rules.specs.Receive.{parkOf}
 use Rattle.ipc_rules.specs.Views.{holdCount, ephemeralOf, heldIn}
+use Rattle.ipc_rules.specs.Why.{whyOf}
 use Rattle.ipc_rules.specs.declared.state.TaskId.{TaskId}
+use Rattle.ipc_rules.specs.declared.opening.Asked.the-variants.{Receive}
+use Rattle.ipc_rules.specs.declared.answers.WhyAnswer.{WhyAnswer}
 use Rattle.ipc_rules.specs.declared.answers.ParkAnswer.{ParkAnswer}
 use Rattle.ipc_rules.specs.declared.answers.ParkAnswer.the-variants.{Parked, Given, BadCap, Busy, Cancelled, BadTable}
 use Rattle.logread.specs.Little.{byteAt}
 use Rattle.logread.specs.Lists.{listWords}
 use Rattle.operations.specs.Apply.{applyOf}
-use Rattle.operations.specs.Channels.{parkDone}
+use Rattle.operations.specs.Channels.{reasoned, parkDone}
 use Rattle.operations.specs.Joined.{spawnDone}
 use Rattle.operations.specs.Operands.{idAt, taskAt}
 use Rattle.operations.specs.declared.Tables.{Tables}
@@ -43,18 +46,19 @@ unfolding callsOf run
 parks s log = goes-on s (parking log) (other-number 3 log)
 
 park-shows : (log : List ℕ) (t : Tables) → let a = parkOf (t .channels) (idAt log 3) (taskAt log 7) .answer in
-    doneBy (parking log) t .number ∷ doneBy (parking log) t .values ≡ parkNumber a ∷ parkValues a
+    doneBy (parking log) t .number ∷ doneBy (parking log) t .values ≡ parkNumber a ∷ reasoned (whyOf (t .channels) (idAt log 3) Receive) (parkNumber a) (parkValues a)
 unfolding applyOf parkDone
 park-shows log t = refl
 
 -- `0` is Parked alone
-zero-parked : (a : ParkAnswer) → parkNumber a ∷ parkValues a ≡ 0 ∷ 0 ∷ [] → a ≡ Parked
-zero-parked Parked e = refl
-zero-parked (Given m) e = let z : _≡_ {A = ℕ} 0 1 = cc in absurd (omega arith)
-zero-parked BadCap e = let z : _≡_ {A = ℕ} 0 1 = cc in absurd (omega arith)
-zero-parked Busy e = let z : _≡_ {A = ℕ} 0 1 = cc in absurd (omega arith)
-zero-parked Cancelled e = let z : _≡_ {A = ℕ} 0 1 = cc in absurd (omega arith)
-zero-parked BadTable e = let z : _≡_ {A = ℕ} 0 1 = cc in absurd (omega arith)
+zero-parked : (why : WhyAnswer) (a : ParkAnswer) → parkNumber a ∷ reasoned why (parkNumber a) (parkValues a) ≡ 0 ∷ 0 ∷ [] → a ≡ Parked
+unfolding reasoned pick
+zero-parked why Parked e = refl
+zero-parked why (Given m) e = let z : _≡_ {A = ℕ} 0 1 = cc in absurd (omega arith)
+zero-parked why BadCap e = let z : _≡_ {A = ℕ} 0 1 = cc in absurd (omega arith)
+zero-parked why Busy e = let z : _≡_ {A = ℕ} 0 1 = cc in absurd (omega arith)
+zero-parked why Cancelled e = let z : _≡_ {A = ℕ} 0 1 = cc in absurd (omega arith)
+zero-parked why BadTable e = let z : _≡_ {A = ℕ} 0 1 = cc in absurd (omega arith)
 
 -- ---- which operation comes first
 -- where none of the operations is an accepted `new`, none before one of them is, nor is that one
@@ -115,7 +119,7 @@ module _ (n k : ℕ) (x : TaskId) where
 module _ (s : Logged) (f : Follows s) (log : List ℕ) where
   parked-on : lineIn s (parking log) ≡ 4 ∷ 0 ∷ 0 ∷ [] → ParkedOn (s .world) (idAt log 3) (taskAt log 7)
   unfolding answer
-  parked-on e = parked-named (s .world) (f .reached) (idAt log 3) (taskAt log 7) (rw (f .channels) (ap parked (zero-parked _ (sym (park-shows log (s .tables)) ∙ same-rest e))))
+  parked-on e = parked-named (s .world) (f .reached) (idAt log 3) (taskAt log 7) (rw (f .channels) (ap parked (zero-parked _ _ (sym (park-shows log (s .tables)) ∙ same-rest e))))
 
   named-in-log : ParkedOn (s .world) (idAt log 3) (taskAt log 7) → NamedInLog s log
   named-in-log p =

@@ -2,6 +2,7 @@
 use mathlib.Core.Path.{_≡_, refl, ap}
 use Rattle.laws.specs.Pick.{pick}
 use Rattle.ipc_sound.specs.Border.{guarded}
+use Rattle.ipc_rules.specs.Why.{whyOf}
 use Rattle.ipc_rules.specs.Sound.{Sound}
 use Rattle.ipc_rules.specs.Counts.{noteAuthorityOf, noteStateOf}
 use Rattle.ipc_rules.specs.Create.{createOf}
@@ -22,7 +23,7 @@ use Rattle.ipc_rules.specs.declared.answers.Clearing.{Clearing}
 use Rattle.ipc_rules.specs.declared.answers.Noting.{Noting}
 use Rattle.ipc_sound.proofs.Decide.{test-of}
 use Rattle.history.specs.Calls.{Call, create, send, receive, park, queued, revoke, register, release, holders, clear, noteAuthority, noteState, counts, fourSlots, answer, after}
-use Rattle.history.specs.Public.{publicAnswer, publicAfter, PublicCalls}
+use Rattle.history.specs.Public.{publicAnswer, publicAfter, PublicCalls, WhyServed}
 use Rattle.history.proofs.Kept.{reached-sound}
 
 -- on a sound table the border serves the rule
@@ -64,3 +65,6 @@ tables t counts s = refl
 
 pub public-calls : PublicCalls
 public-calls w reached call = (answers (w .table) call (reached-sound reached), tables (w .table) call (reached-sound reached))
+
+pub why-served : WhyServed
+why-served w reached c asked = served (w .table) _ (whyOf (w .table) c asked) (reached-sound reached)

@@ -23,7 +23,8 @@ use Rattle.ipc_rules.specs.declared.state.Mailbox.{Mailbox}
 use Rattle.ipc_rules.specs.declared.state.Sizes.{Sizes}
 use Rattle.ipc_rules.specs.declared.state.Table.{Table}
 use Rattle.ipc_rules.specs.declared.opening.Opening.the-variants.{Opens, Shut}
-use Rattle.ipc_rules.proofs.OtherOpenings.{either-is, any-is}
+use Rattle.ipc_rules.proofs.Openings.{either-is}
+use Rattle.ipc_rules.proofs.OtherOpenings.{any-is}
 use Rattle.ipc_rules.proofs.NewChannel.{dead-shut}
 use Rattle.ipc_rules.proofs.AfterNew.{fresh-box}
 use Rattle.ipc_rules.proofs.AfterCreate.{Creates, CreateWays, no-mailbox, no-endpoint, create-ways}

@@ -16,7 +16,7 @@ use Rattle.cap.specs.declared.CapRights.{CapRights}
 use Rattle.cap.proofs.Ids.{index-of-id, generation-of-id}
 use Rattle.ipc_rules.specs.State.{endpointAt, mailboxLive}
 use Rattle.ipc_rules.specs.Sound.{Sound}
-use Rattle.ipc_rules.specs.Opening.{openingOf, openOf}
+use Rattle.ipc_rules.specs.Opening.{attemptOf, told, openingOf, openOf}
 use Rattle.ipc_rules.specs.Views.{Steady}
 use Rattle.ipc_rules.specs.declared.state.Endpoint.{Endpoint}
 use Rattle.ipc_rules.specs.declared.state.Table.{Table}
@@ -30,7 +30,7 @@ pub record Opener (t : Table) (k : ℕ) : Type 0 where
   pub opens : openingOf t id sendRight ≡ Opens k
 
 pub live-opens : (t : Table) (k : ℕ) → Sound t → mailboxLive t k ≡ true → Opener t k
-unfolding openingOf openOf pick
+unfolding openingOf openOf pick attemptOf told
 live-opens t k s l =
     let e = s .ends k l in
     let i = e .send in

@@ -18,6 +18,7 @@ pub mod Sequences
 pub mod Operations
 pub mod Lines
 pub mod LogIds
+pub mod LogReasons
 pub mod LogMessages
 pub mod LogWaits
 pub mod Log

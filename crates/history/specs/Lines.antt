@@ -3,18 +3,22 @@
 use mathlib.Core.Path.{_≡_}
 use mathlib.Core.List.{List, [], _∷_, _++_, List·Memᴰ}
 use Prim.Native.Nat.{ℕ, _<_}
+use lib.Dec.{eqb}
 use lib.ListN.{getD}
+use Rattle.laws.specs.Pick.{pick}
 use Rattle.laws.specs.Refusals as no
 use Rattle.capslots.specs.Rows.{drainOf}
 use Rattle.ipc_rules.specs.State.{nobody, waiting}
 use Rattle.ipc_rules.specs.Answers.{fourWaiterValues}
+use Rattle.ipc_rules.specs.Why.{whyOf, whyValues}
 use Rattle.ipc_rules.specs.declared.state.Message.{Message}
 use Rattle.ipc_rules.specs.declared.state.TaskId.{TaskId}
 use Rattle.ipc_rules.specs.declared.state.Waiter.{Waiter}
+use Rattle.ipc_rules.specs.declared.opening.Asked.the-variants.{Send, Receive, Either}
 use Rattle.logread.specs.Little.{byteAt}
 use Rattle.logread.specs.Lists.{listSlots}
 use Rattle.operations.specs.Done.{Done}
-use Rattle.operations.specs.Operands.{taskAt}
+use Rattle.operations.specs.Operands.{idAt, taskAt}
 use Rattle.operations.specs.declared.Tables.{Tables}
 use Rattle.history.specs.Calls.{Call, Answer}
 use Rattle.history.specs.Numbers.{numberOf, valuesOf}
@@ -27,22 +31,38 @@ use Rattle.history.specs.Operations.{Operation, doneBy, callsOf, Logged,
 abbrev pub lineIn : Logged → Operation → List ℕ
 lineIn s o = o .number ∷ doneBy o (s .tables) .number ∷ doneBy o (s .tables) .values
 
+-- ---- the reason
+-- request No. 6, "the reason, 1 to 4, only ends the replay lines on which send, receive, park or `queued` prints BadCap": what stands behind the
+-- BadCap of each operation, in the order of their numbers; from 6 up nothing does
+abbrev pub allReasons : List ℕ → Tables → List (List ℕ)
+allReasons log t =
+    [] ∷
+    [] ∷
+    whyValues (whyOf (t .channels) (idAt log 3) Send) ∷
+    whyValues (whyOf (t .channels) (idAt log 3) Receive) ∷
+    whyValues (whyOf (t .channels) (idAt log 3) Receive) ∷
+    whyValues (whyOf (t .channels) (idAt log 3) Either) ∷
+    []
+
+unfoldable pub reasonOf : Operation → Tables → List ℕ
+reasonOf o t = getD (allReasons (o .bytes) t) (o .number) []
+
 -- ---- every answer
 -- the values of answers, one after the other
 unfoldable pub allValues : List Answer → List ℕ
 allValues [] = []
 allValues (a ∷ rest) = valuesOf a ++ allValues rest
 
--- the number and the values that it shows are those of the calls' answers
-pub record Tells (w : World) (cs : List Call) (d : Done) : Type 0 where
+-- the number and the values that it shows are those of the calls' answers, and behind BadCap there is the reason
+pub record Tells (w : World) (cs : List Call) (reason : List ℕ) (d : Done) : Type 0 where
   pub number : (a : Answer) → List·Memᴰ a (answers w cs) → d .number ≡ numberOf a
-  pub values : d .values ≡ allValues (answers w cs)
+  pub values : d .values ≡ allValues (answers w cs) ++ pick (eqb (d .number) no.badCap) reason []
 
 -- so it is for every operation that makes a call
 abbrev pub OperationsTell : Type 0
 OperationsTell =
     (s : Logged) → Follows s → (o : Operation) → ((i : ℕ) → byteAt (o .bytes) i < 256) →
-    (c : Call) (cs : List Call) → callsOf o (s .tables) ≡ c ∷ cs → Tells (s .world) (c ∷ cs) (doneBy o (s .tables))
+    (c : Call) (cs : List Call) → callsOf o (s .tables) ≡ c ∷ cs → Tells (s .world) (c ∷ cs) (reasonOf o (s .tables)) (doneBy o (s .tables))
 
 -- ---- a message
 -- the line shows message m, its stamp last: a receive as `tag a b row`, a park as `1 tag a b row`

@@ -1,8 +1,8 @@
 -- Demand 3's first sentence in a log: "From its creation, an id of channel n opens channel n or nothing until 65,535 later creations have
 -- succeeded." The ids are those that the line of a create shows; channels are numbered from the log's start, or from the last `new` that
--- was accepted, and it is so up to the next. The line of an operation with such an id shows BadCap, or what that channel's mailbox answers. A
--- send whose row is from 54 up would show 19 and touch nothing; in a log that is read it is refused before (25, `logread` `operandsOk`). The
--- lines of operations with lists show no answer to a single id, and what their calls do with it is `Reach`.
+-- was accepted, and it is so up to the next. The line of an operation with such an id shows BadCap, with the reason where it has one (`LogReasons`), or what that
+-- channel's mailbox answers. A send whose row is from 54 up would show 19 and touch nothing; in a log that is read it is refused before (25, `logread`
+-- `operandsOk`). The lines of operations with lists show no answer to a single id, and what their calls do with it is `Reach`.
 use mathlib.Core.Path.{_≡_}
 use mathlib.Core.Bool.{true}
 use mathlib.Core.List.{List, [], _∷_}
@@ -18,16 +18,16 @@ use Rattle.history.specs.Channels.{LivesIn}
 use Rattle.history.specs.Reach.{Reach, sendAt, receiveAt, parkAt, queuedAt, revokeAt, holdersAt}
 use Rattle.history.specs.Ids.{OpensOnly}
 use Rattle.history.specs.Operations.{Operation, Logged, operate, operated, beginning, Follows, lasting}
-use Rattle.history.specs.Lines.{lineIn}
+use Rattle.history.specs.Lines.{lineIn, reasonOf}
 
 -- 1, create
 abbrev pub creation : List ℕ → Operation
 creation log = record { number = 1; bytes = log }
 
 -- ---- the lines of operations with an id
--- the line of an operation on channel n or on nothing: BadCap, or what the mailbox where n lives answers
+-- the line of an operation on channel n or on nothing: BadCap with its reason, if it has one, or what the mailbox where n lives answers
 pub data LineReaches (s : Logged) (n : ℕ) (o : Operation) (of : ℕ → Answer) : Type 0 where
-  nothing : lineIn s o ≡ o .number ∷ no.badCap ∷ [] → LineReaches s n o of
+  nothing : lineIn s o ≡ o .number ∷ no.badCap ∷ reasonOf o (s .tables) → LineReaches s n o of
   channel : (k : ℕ) → LivesIn (s .world) n k → lineIn s o ≡ o .number ∷ numberOf (of k) ∷ valuesOf (of k) → LineReaches s n o of
 
 -- of each operation with the id c, by its number

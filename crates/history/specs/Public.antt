@@ -1,7 +1,10 @@
 -- The public functions of `ipc` in a run. Each refuses an unsound table with 27 before its rule; no table of a run is one, so that what
 -- holds of the rules over runs holds of the functions.
 use mathlib.Core.Path.{_≡_}
-use Rattle.ipc_sound.specs.Border.{createCall, sendCall, recvCall, parkCall, queuedCall, holdersCall, registerCall, releaseCall, revokeCall, clearCall, noteAuthorityCall, noteStateCall, refusalsCall}
+use Rattle.ipc_sound.specs.Border.{createCall, sendCall, recvCall, parkCall, queuedCall, holdersCall, registerCall, releaseCall, revokeCall, clearCall, noteAuthorityCall, noteStateCall, refusalsCall, whyCall}
+use Rattle.cap.specs.declared.CapId.{CapId}
+use Rattle.ipc_rules.specs.Why.{whyOf}
+use Rattle.ipc_rules.specs.declared.opening.Asked.{Asked}
 use Rattle.ipc_rules.specs.declared.state.Table.{Table}
 use Rattle.history.specs.Calls.{Call, create, send, receive, park, queued, revoke, register, release, holders, clear, noteAuthority, noteState, counts, fourSlots, Answer, created, sent, received, parked, measured, revoked, registered, released, held, cleared, noted, counted, answer, after}
 use Rattle.history.specs.World.{World, Reached}
@@ -41,3 +44,7 @@ abbrev pub PublicCalls : Type 0
 PublicCalls =
     (w : World) → Reached w → (call : Call) →
     (publicAnswer (w .table) call ≡ answer (w .table) call) × (publicAfter (w .table) call ≡ after (w .table) call)
+
+-- the supervisor's look at why an id opens nothing, which gives no table back, is no `Call`; it too is answered by its rule
+abbrev pub WhyServed : Type 0
+WhyServed = (w : World) → Reached w → (c : CapId) (asked : Asked) → whyCall (w .table) c asked ≡ whyOf (w .table) c asked

@@ -5,7 +5,7 @@
 // `ipc_queue` and `ipc_holds` and do not pay for the test again.
 ghost use mathlib.Core.Path.{_≡_};
 ghost use mathlib.Core.Bool.{true, false};
-ghost use Rattle.ipc_sound.specs.Border.{createCall, sendCall, recvCall, parkCall, queuedCall, holdersCall, registerCall, releaseCall, revokeCall, clearCall, noteAuthorityCall, noteStateCall, refusalsCall};
+ghost use Rattle.ipc_sound.specs.Border.{createCall, sendCall, recvCall, parkCall, queuedCall, whyCall, holdersCall, registerCall, releaseCall, revokeCall, clearCall, noteAuthorityCall, noteStateCall, refusalsCall};
 use cap::CapId;
 use cap::Slot;
 pub use ipc_life::making::new;
@@ -30,6 +30,8 @@ use ipc_rules::answers::RevokeAnswer;
 use ipc_rules::answers::Revoking;
 use ipc_rules::answers::SendAnswer;
 use ipc_rules::answers::Sending;
+use ipc_rules::answers::WhyAnswer;
+use ipc_rules::opening::Asked;
 use ipc_rules::state::NOBODY;
 use ipc_rules::state::Payload;
 use ipc_rules::state::Table;
@@ -108,6 +110,16 @@ pub fn queued(t: Table, cap: CapId) -> QueuedAnswer
         return QueuedAnswer::BadTable;
     }
     ipc_queue::inner::queued(t, cap)
+}
+
+// For the supervisor, not for tasks: why an id opens nothing, if it does not.
+pub fn why_shut(t: Table, cap: CapId, asked: Asked) -> WhyAnswer
+    ensures { λ r. ⌜ r ≡ whyCall t cap asked ⌝ }
+{
+    if !ipc_sound::sound(t) {
+        return WhyAnswer::BadTable;
+    }
+    ipc_queue::inner::why_shut(t, cap, asked)
 }
 
 // How many holds on the send end are registered and not released.

@@ -4,6 +4,7 @@ pub mod queue;
 
 pub use looks::queued;
 pub use looks::send_holders;
+pub use looks::why_shut;
 pub use queue::park;
 pub use queue::send;
 pub use queue::try_recv;

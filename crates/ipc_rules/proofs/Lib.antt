@@ -1,4 +1,5 @@
 pub mod Openings
+pub mod Why
 pub mod Keeps
 pub mod KeepsCalls
 pub mod KeepsEnds

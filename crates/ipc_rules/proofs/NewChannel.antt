@@ -17,11 +17,14 @@ use Rattle.cap.specs.declared.CapRights.{CapRights}
 use Rattle.cap.proofs.Ids.{index-of-id, generation-of-id, same-parts}
 use Rattle.ipc_rules.specs.State.{freshEndpoint, endpointAt, endpointLive, newEndpoint}
 use Rattle.ipc_rules.specs.Sound.{Sound}
-use Rattle.ipc_rules.specs.Opening.{openOf, openingOf}
+use Rattle.ipc_rules.specs.Opening.{attemptOf, told, openOf, openingOf}
 use Rattle.ipc_rules.specs.Create.{withChannel}
 use Rattle.ipc_rules.specs.Views.{endOpens}
 use Rattle.ipc_rules.specs.declared.state.Endpoint.{Endpoint}
 use Rattle.ipc_rules.specs.declared.state.Table.{Table}
+use Rattle.ipc_rules.specs.declared.opening.Attempt.the-variants.{Passes, Fails}
+use Rattle.ipc_rules.specs.declared.opening.Reason.the-variants.{PastEnd, Dead, OtherGeneration, NoRight}
+use Rattle.ipc_rules.specs.declared.opening.Attempt.{Attempt}
 use Rattle.ipc_rules.specs.declared.opening.Opening.{Opening}
 use Rattle.ipc_rules.specs.declared.opening.Opening.the-variants.{Opens, Shut}
 use Rattle.ipc_rules.proofs.KeepsCreate.{Free, created-send, created-recv}
@@ -49,8 +52,8 @@ pub record NewOpenings (t : Table) (k s r : ℕ) (u : Table) : Type 0 where
 
 -- ---- a dead endpoint opens to no id
 pub dead-shut : (t : Table) (c : CapId) (need : CapRights) → endpointLive t (indexOf c) ≡ false → openingOf t c need ≡ Shut
-unfolding openingOf openOf pick
-dead-shut t c need e = rw e (all-pick (λ o. o ≡ Shut) (ltb (indexOf c) (t .sizes .endpoints)) Shut Shut (λ _. refl) (λ _. refl))
+unfolding openingOf openOf attemptOf told pick
+dead-shut t c need e = rw e (all-pick (λ (a : Attempt). told a ≡ Shut) (ltb (indexOf c) (t .sizes .endpoints)) (Fails Dead) (Fails PastEnd) (λ _. refl) (λ _. refl))
 
 -- what a live end opens, it opens to an id of its generation, by its right
 end-opens : (g : ℕ) (w : CapRights) (k : ℕ) (c : CapId) (need : CapRights) (j : ℕ) → endOpens g w k c need ≡ Opens j → (g ≡ generationOf c) × (containsAll w need ≡ true) × (k ≡ j)
@@ -86,8 +89,13 @@ module _ (t : Table) (ephemeral : Bool) (k s r : ℕ) (σ : Sound t) (x : Free t
       ∙ getD-set-other (t .endpoints) s i (newEndpoint g sendRight k) freshEndpoint a
 
   at-end : (i : ℕ) (w : CapRights) (c : CapId) (need : CapRights) → i < t .sizes .endpoints → endpointAt u i ≡ newEndpoint g w k → indexOf c ≡ i → openingOf u c need ≡ endOpens g w k c need
-  unfolding openingOf openOf endOpens pick
-  at-end i w c need l e h = rw (h, lt-ltb i (t .sizes .endpoints) l, e)
+  unfolding openingOf openOf attemptOf told endOpens pick
+  at-end i w c need l e h = rw (h, lt-ltb i (t .sizes .endpoints) l, e) (both (eqb g (generationOf c)) (containsAll w need))
+    where
+      both : (a b : Bool) → told (pick a (pick b (Passes k) (Fails NoRight)) (Fails OtherGeneration)) ≡ pick a (pick b (Opens k) Shut) Shut
+      both true true = refl
+      both true false = refl
+      both false b = refl
 
   opens-by : (i : ℕ) (w need : CapRights) → i < t .sizes .endpoints → endpointAt u i ≡ newEndpoint g w k → openingOf u (idOf i g) need ≡ pick (containsAll w need) (Opens k) Shut
   unfolding endOpens pick

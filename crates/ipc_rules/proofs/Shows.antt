@@ -2,6 +2,9 @@
 use mathlib.Core.Path.{_≡_, refl}
 use mathlib.Core.List.{[]}
 use Prim.Native.Nat.{ℕ}
+use Rattle.ipc_rules.specs.Why.{whyValues}
+use Rattle.ipc_rules.specs.declared.opening.Reason.{Reason}
+use Rattle.ipc_rules.specs.declared.answers.WhyAnswer as why
 use Rattle.ipc_rules.specs.Answers.{createValues, queuedValues, holdersValues, revokeValues}
 use Rattle.ipc_rules.specs.declared.state.Channel.{Channel}
 use Rattle.ipc_rules.specs.declared.state.Waiter.{Waiter}
@@ -20,6 +23,11 @@ pub queued-none : (a : queued.QueuedAnswer) → ((x : ℕ) → a ≡ queued.the-
 queued-none (queued.the-variants.Queued x) h = absurd (h x refl)
 queued-none queued.the-variants.BadCap h = refl
 queued-none queued.the-variants.BadTable h = refl
+
+pub why-none : (a : why.WhyAnswer) → ((r : Reason) → a ≡ why.the-variants.Shut r → ⊥) → whyValues a ≡ []
+why-none why.the-variants.Opens h = refl
+why-none (why.the-variants.Shut r) h = absurd (h r refl)
+why-none why.the-variants.BadTable h = refl
 
 pub holders-none : (a : holders.HoldersAnswer) → ((x : ℕ) → a ≡ holders.the-variants.Holders x → ⊥) → holdersValues a ≡ []
 holders-none (holders.the-variants.Holders x) h = absurd (h x refl)

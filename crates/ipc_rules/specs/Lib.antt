@@ -1,6 +1,7 @@
 pub mod State
 pub mod Sound
 pub mod Opening
+pub mod Why
 pub mod Counts
 pub mod Make
 pub mod Create

@@ -1,4 +1,5 @@
 // What each call answers. A call that can change the table gives it back beside the answer.
+use crate::opening::Reason;
 use crate::state::Channel;
 use crate::state::Message;
 use crate::state::Refusals;
@@ -135,5 +136,12 @@ pub struct Noting {
 
 pub enum RefusalsAnswer {
     Counts(Refusals),
+    BadTable,
+}
+
+// For the supervisor: an id opens, or for which reason it does not.
+pub enum WhyAnswer {
+    Opens,
+    Shut(Reason),
     BadTable,
 }

@@ -1,5 +1,6 @@
 // The number of each answer, 0 or the refusal's.
 ghost use mathlib.Core.Path.{_≡_};
+ghost use Rattle.ipc_rules.specs.Why.{whyNumber};
 ghost use Rattle.ipc_rules.specs.Answers.{newNumber, createNumber, sendNumber, recvNumber, parkNumber, queuedNumber, holdersNumber, registerNumber, releaseNumber, revokeNumber, clearNumber, noteNumber, countsNumber};
 use crate::answers::ClearAnswer;
 use crate::answers::CreateAnswer;
@@ -14,6 +15,7 @@ use crate::answers::RegisterAnswer;
 use crate::answers::ReleaseAnswer;
 use crate::answers::RevokeAnswer;
 use crate::answers::SendAnswer;
+use crate::answers::WhyAnswer;
 use laws::refusals;
 
 impl NewAnswer {
@@ -170,6 +172,18 @@ impl RefusalsAnswer {
         match self {
             RefusalsAnswer::Counts(_) => refusals::NONE,
             RefusalsAnswer::BadTable => refusals::BAD_TABLE,
+        }
+    }
+}
+
+impl WhyAnswer {
+    pub fn number(self) -> u8
+        ensures { λ r. ⌜ r ≡ whyNumber self ⌝ }
+    {
+        match self {
+            WhyAnswer::Opens => refusals::NONE,
+            WhyAnswer::Shut(_) => refusals::BAD_CAP,
+            WhyAnswer::BadTable => refusals::BAD_TABLE,
         }
     }
 }

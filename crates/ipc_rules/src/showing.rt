@@ -1,4 +1,4 @@
-// What a line shows of each answer: its number and its values. A refusal shows none.
+// What a line shows of each answer: its number and its values. A refusal shows none, but for the reason why an id is shut.
 //
 // Send, receive and park name each of their refusals for the optimiser's sake: from `self.number()` it goes on to copy all tables at the
 // start of every operation (docs/PERFORMANCE.md).
@@ -7,6 +7,7 @@ ghost use mathlib.Core.List.{_∷_};
 ghost use Rattle.laws.specs.Refusals.{none};
 ghost use Rattle.shown.specs.Shown.{shown, pushedAll};
 ghost use Rattle.ipc_rules.specs.declared.answers.CreateAnswer.the-variants.{Created};
+ghost use Rattle.ipc_rules.specs.Why.{whyNumber, whyValues};
 ghost use Rattle.ipc_rules.specs.Answers.{messageValues, waiterValues, fourWaiterValues, newNumber, newValues, createNumber, createValues, sendNumber, sendValues, recvNumber, recvValues, parkNumber, parkValues, queuedNumber, queuedValues, holdersNumber, holdersValues, registerNumber, registerValues, releaseNumber, releaseValues, revokeNumber, revokeValues, clearNumber, clearValues, noteNumber, noteValues, countsNumber, countsValues};
 use crate::answers::ClearAnswer;
 use crate::answers::CreateAnswer;
@@ -21,6 +22,7 @@ use crate::answers::RegisterAnswer;
 use crate::answers::ReleaseAnswer;
 use crate::answers::RevokeAnswer;
 use crate::answers::SendAnswer;
+use crate::answers::WhyAnswer;
 use crate::state::Channel;
 use crate::state::Message;
 use crate::state::Waiter;
@@ -224,5 +226,16 @@ impl RefusalsAnswer {
             r.full as u64,
             r.state as u64,
         )
+    }
+}
+
+impl WhyAnswer {
+    pub fn shown(self) -> Shown
+        ensures { λ r. ⌜ r ≡ shown (whyNumber self) (whyValues self) ⌝ }
+    {
+        let WhyAnswer::Shut(reason) = self else {
+            return shown::none(self.number());
+        };
+        shown::one(refusals::BAD_CAP, reason.number() as u64)
     }
 }

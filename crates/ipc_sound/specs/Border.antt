@@ -26,6 +26,9 @@ use Rattle.ipc_rules.specs.declared.answers.RecvAnswer as recv
 use Rattle.ipc_rules.specs.declared.answers.Parking.{Parking}
 use Rattle.ipc_rules.specs.declared.answers.ParkAnswer as park
 use Rattle.ipc_rules.specs.declared.answers.QueuedAnswer as queued
+use Rattle.ipc_rules.specs.declared.answers.WhyAnswer as why
+use Rattle.ipc_rules.specs.declared.opening.Asked.{Asked}
+use Rattle.ipc_rules.specs.Why.{whyOf}
 use Rattle.ipc_rules.specs.declared.answers.HoldersAnswer as holders
 use Rattle.ipc_rules.specs.declared.answers.Registering.{Registering}
 use Rattle.ipc_rules.specs.declared.answers.RegisterAnswer as register
@@ -57,6 +60,9 @@ parkCall t c task = guarded t (record { answer = park.the-variants.BadTable; tab
 
 abbrev pub queuedCall : Table → CapId → queued.QueuedAnswer
 queuedCall t c = guarded t queued.the-variants.BadTable (queuedOf t c)
+
+abbrev pub whyCall : Table → CapId → Asked → why.WhyAnswer
+whyCall t c asked = guarded t why.the-variants.BadTable (whyOf t c asked)
 
 abbrev pub holdersCall : Table → CapId → holders.HoldersAnswer
 holdersCall t c = guarded t holders.the-variants.BadTable (holdersOf t c)

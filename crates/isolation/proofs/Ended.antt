@@ -14,7 +14,8 @@ use Rattle.ipc_rules.specs.declared.opening.Opening.the-variants.{Opens, Shut}
 use Rattle.ipc_rules.specs.declared.state.Table.{Table as Channels}
 use Rattle.ipc_rules.specs.declared.answers.RevokeAnswer.the-variants.{Revoked}
 use Rattle.ipc_rules.proofs.AfterRevoke.{Revokes, RevokeWays, bad-cap, revoked, revoke-ways}
-use Rattle.ipc_rules.proofs.OtherOpenings.{either-is, any-is}
+use Rattle.ipc_rules.proofs.Openings.{either-is}
+use Rattle.ipc_rules.proofs.OtherOpenings.{any-is}
 use Rattle.dispatcher_rules.specs.Close.{wokenBy, endOf}
 use Rattle.dispatcher_rules.specs.declared.answers.Ending.{Ending}
 use Rattle.isolation.proofs.Ids.{never-opens}

@@ -15,7 +15,7 @@ use Rattle.ipc_rules.specs.State.{sizesOf}
 use Rattle.ipc_rules.specs.Counts.{raised}
 use Rattle.ipc_rules.specs.Create.{createOf}
 use Rattle.ipc_rules.specs.Holds.{registered}
-use Rattle.ipc_rules.specs.Opening.{openOf, openAny, openingOf, anyRightOf, holdOf, opened as onOpening}
+use Rattle.ipc_rules.specs.Opening.{attemptOf, told, openOf, openAny, openingOf, anyRightOf, holdOf, opened as onOpening}
 use Rattle.ipc_rules.specs.Send.{sendOf}
 use Rattle.ipc_rules.specs.Receive.{recvOf, parkOf}
 use Rattle.ipc_rules.specs.Revoke.{killed, wiped, revokeOf}
@@ -100,7 +100,7 @@ answered calls r s =
 -- what each row gets, by the rules
 by-rule : (ifReceived (slotRecvOf (ruleRun begun morning .dispatcher) (ruleRun begun morning .rows) (ruleRun begun morning .channels) 3 0 .answer) ≡ ours ∷ [])
     × (ifReceived (slotRecvOf (ruleRun begun morning .dispatcher) (ruleRun begun morning .rows) (ruleRun begun morning .channels) 4 0 .answer) ≡ theirs ∷ [])
-unfolding ruleRun ruleAfter makeOf boundTest every openJobOf creates givesBoth slotSendOf slotRecvOf slotted ifReceived byReceive getOf fromSlot emptySlotOf installOf giveOf installs createOf registered onOpening holdOf openingOf openOf nextGeneration raised sendOf recvOf found lowestFree lowest pick
+unfolding ruleRun ruleAfter makeOf boundTest every openJobOf creates givesBoth slotSendOf slotRecvOf slotted ifReceived byReceive getOf fromSlot emptySlotOf installOf giveOf installs createOf registered onOpening holdOf openingOf openOf nextGeneration raised sendOf recvOf found lowestFree lowest pick attemptOf told
 by-rule = (refl, refl)
 
 -- and so by the calls
@@ -128,7 +128,7 @@ by-row-2 = record { tag = 7; row = 2; a = 100; b = 200 }
 
 told-by-rule : (ifReceived (slotRecvOf (ruleRun begun both .dispatcher) (ruleRun begun both .rows) (ruleRun begun both .channels) 3 0 .answer) ≡ ours ∷ [])
     × (ifReceived (slotRecvOf (ruleRun begun both .dispatcher) (ruleRun begun both .rows) (ruleRun begun both .channels) 3 1 .answer) ≡ by-row-2 ∷ [])
-unfolding ruleRun ruleAfter makeOf boundTest every openJobOf creates givesBoth slotSendOf slotRecvOf slotted ifReceived byReceive getOf fromSlot emptySlotOf installOf giveOf installs createOf registered onOpening holdOf openingOf openOf nextGeneration raised sendOf recvOf found lowestFree lowest pick
+unfolding ruleRun ruleAfter makeOf boundTest every openJobOf creates givesBoth slotSendOf slotRecvOf slotted ifReceived byReceive getOf fromSlot emptySlotOf installOf giveOf installs createOf registered onOpening holdOf openingOf openOf nextGeneration raised sendOf recvOf found lowestFree lowest pick attemptOf told
 told-by-rule = (refl, refl)
 
 pub first-told : handedTo (run begun both) 3 (receive 3 0) ≡ ours ∷ []
@@ -160,7 +160,7 @@ ruled = ruleRun begun evening
 -- by the rules the old slot is empty, and the sentence comes out in the other row
 later-by-rule : (slotRecvOf (ruled .dispatcher) (ruled .rows) (ruled .channels) 3 0 .answer ≡ Vacant 0)
     × (ifReceived (slotRecvOf (ruled .dispatcher) (ruled .rows) (ruled .channels) 4 0 .answer) ≡ theirs ∷ [])
-unfolding ruleRun ruleAfter makeOf boundTest every openJobOf creates givesBoth closeJobOf endOf slotSendOf slotRecvOf slotParkOf slotted ifReceived byReceive getOf fromSlot emptySlotOf installOf forgottenOf forgetIn giveOf installs createOf registered revokeOf killed wiped onOpening holdOf openingOf openOf anyRightOf openAny nextGeneration raised sendOf recvOf parkOf found lowestFree lowest pick
+unfolding ruleRun ruleAfter makeOf boundTest every openJobOf creates givesBoth closeJobOf endOf slotSendOf slotRecvOf slotParkOf slotted ifReceived byReceive getOf fromSlot emptySlotOf installOf forgottenOf forgetIn giveOf installs createOf registered revokeOf killed wiped onOpening holdOf openingOf openOf anyRightOf openAny nextGeneration raised sendOf recvOf parkOf found lowestFree lowest pick attemptOf told
 later-by-rule = (refl, refl)
 
 pub old-slot : receiving later 3 0 .answer ≡ Vacant 0
@@ -178,7 +178,7 @@ abbrev parked : Desk
 parked = run begun (openFor pt-PT 1 ∷ [])
 
 park-by-rule : slotParkOf (ruleRun begun (openFor pt-PT 1 ∷ []) .dispatcher) (ruleRun begun (openFor pt-PT 1 ∷ []) .rows) (ruleRun begun (openFor pt-PT 1 ∷ []) .channels) 3 0 filter .answer ≡ Answered Parked
-unfolding ruleRun ruleAfter makeOf boundTest every openJobOf creates givesBoth slotParkOf slotted getOf fromSlot emptySlotOf installOf giveOf installs createOf registered onOpening holdOf openingOf openOf nextGeneration raised parkOf found lowestFree lowest pick
+unfolding ruleRun ruleAfter makeOf boundTest every openJobOf creates givesBoth slotParkOf slotted getOf fromSlot emptySlotOf installOf giveOf installs createOf registered onOpening holdOf openingOf openOf nextGeneration raised parkOf found lowestFree lowest pick attemptOf told
 park-by-rule = refl
 
 pub filter-waits : WaitsFor parked 3 0 filter

@@ -4,6 +4,7 @@ use Prim.Native.Nat.{ℕ, zero, suc}
 use mathlib.Core.Bool.{not}
 use lib.Dec.{lit≤, eqb}
 use lib.ListN.{getD}
+use Rattle.laws.specs.Refusals as no
 use Rattle.laws.proofs.Cases.{all-pick}
 use Rattle.shown.proofs.Few.{Few, none-few}
 use Rattle.cap.proofs.Few.{slot-few}
@@ -17,6 +18,9 @@ use Rattle.ipc_rules.specs.Revoke.{revokeOf}
 use Rattle.ipc_rules.specs.Holds.{releaseOf}
 use Rattle.ipc_rules.specs.Waiters.{clearOf}
 use Rattle.ipc_rules.specs.Sound.{Sound}
+use Rattle.ipc_rules.specs.Why.{whyValues}
+use Rattle.ipc_rules.specs.declared.answers.WhyAnswer.{WhyAnswer}
+use Rattle.ipc_rules.specs.declared.answers.WhyAnswer.the-variants.{Opens, Shut, BadTable}
 use Rattle.ipc_rules.proofs.Few.{create-few, send-few, recv-few, park-few, queued-few, revoke-few, release-few, holders-few, clear-few, counts-few}
 use Rattle.irqcap.specs.Table as irqs
 use Rattle.taskcap.specs.Table as tasks
@@ -26,7 +30,7 @@ use Rattle.joined.proofs.Shows.{spawn-few, leave-few}
 use Rattle.logread.specs.Little.{byteAt, littleAt}
 use Rattle.logread.specs.Lists.{listSlots, listWords}
 use Rattle.operations.specs.Apply.{applyOf, allDone, unknownDone}
-use Rattle.operations.specs.Channels.{newDone, createDone, sendDone, receiveDone, parkDone, queuedDone, revokeDone, holdersDone, clearDone, noteAuthorityDone, noteStateDone, countsDone}
+use Rattle.operations.specs.Channels.{reasoned, newDone, createDone, sendDone, receiveDone, parkDone, queuedDone, revokeDone, holdersDone, clearDone, noteAuthorityDone, noteStateDone, countsDone}
 use Rattle.operations.specs.Done.{Done}
 use Rattle.operations.specs.Holds.{registerDone, releaseDone}
 use Rattle.operations.specs.Joined.{spawnDone, leaveDone, giveDone}
@@ -46,6 +50,16 @@ listed : {A : Type 0} (P : A → Type 0) (l : List A) (d : A) → Every P l → 
 listed P [] d h e i = e
 listed P (a ∷ l) d (h ▸ hs) e zero = h
 listed P (a ∷ l) d (h ▸ hs) e (suc i) = listed P l d hs e i
+
+-- a reason is one value
+why-few : (a : WhyAnswer) → Few (whyValues a)
+why-few Opens = lit≤ tt
+why-few (Shut r) = lit≤ tt
+why-few BadTable = lit≤ tt
+
+reasoned-few : (why : WhyAnswer) (n : ℕ) (vs : List ℕ) → Few vs → Few (reasoned why n vs)
+unfolding reasoned
+reasoned-few why n vs h = all-pick Few (eqb n no.badCap) (whyValues why) vs (λ _. why-few why) (λ _. h)
 
 module _ (log : List ℕ) (t : Tables) where
   abbrev Keeps : Done → Type 0
@@ -101,10 +115,10 @@ module _ (log : List ℕ) (t : Tables) where
   all-few =
       new-few ▸
       create-few (createOf (t .channels) (not (eqb (byteAt log 3) 0)) .answer) ▸
-      send-few (sendOf (t .channels) (idAt log 3) (payloadAt log 7) (byteAt log 27) .answer) ▸
-      recv-few (recvOf (t .channels) (idAt log 3) .answer) ▸
-      park-few (parkOf (t .channels) (idAt log 3) (taskAt log 7) .answer) ▸
-      queued-few (queuedOf (t .channels) (idAt log 3)) ▸
+      reasoned-few _ _ _ (send-few (sendOf (t .channels) (idAt log 3) (payloadAt log 7) (byteAt log 27) .answer)) ▸
+      reasoned-few _ _ _ (recv-few (recvOf (t .channels) (idAt log 3) .answer)) ▸
+      reasoned-few _ _ _ (park-few (parkOf (t .channels) (idAt log 3) (taskAt log 7) .answer)) ▸
+      reasoned-few _ _ _ (queued-few (queuedOf (t .channels) (idAt log 3))) ▸
       revoke-few (revokeOf (t .channels) (idAt log 3) .answer) ▸
       none-few ▸
       release-few (releaseOf (t .channels) (listSlots log 3) .answer) (releaseOf (t .channels) (listSlots log 3) .waiters) ▸

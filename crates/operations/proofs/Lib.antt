@@ -1,4 +1,5 @@
 pub mod Packs
+pub mod Explains
 pub mod New
 pub mod Keeps
 pub mod Matches

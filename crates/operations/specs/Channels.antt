@@ -5,6 +5,8 @@ use Prim.Native.Nat.{ℕ}
 use lib.Dec.{eqb}
 use Rattle.laws.specs.Pick.{pick}
 use Rattle.laws.specs.Refusals as no
+use Rattle.shown.specs.Shown.{shown}
+use Rattle.shown.specs.declared.Shown.{Shown}
 use Rattle.capslots.specs.Table as rows
 use Rattle.irqcap.specs.Table as irqs
 use Rattle.taskcap.specs.Table as tasks
@@ -18,6 +20,7 @@ use Rattle.ipc_rules.specs.Receive.{recvOf, parkOf}
 use Rattle.ipc_rules.specs.Revoke.{revokeOf}
 use Rattle.ipc_rules.specs.Send.{sendOf}
 use Rattle.ipc_rules.specs.Waiters.{clearOf}
+use Rattle.ipc_rules.specs.Why.{whyOf, whyNumber, whyValues}
 use Rattle.ipc_rules.specs.declared.answers.New.{New}
 use Rattle.ipc_rules.specs.declared.answers.Creation.{Creation}
 use Rattle.ipc_rules.specs.declared.answers.Sending.{Sending}
@@ -28,27 +31,39 @@ use Rattle.ipc_rules.specs.declared.answers.Clearing.{Clearing}
 use Rattle.ipc_rules.specs.declared.answers.Noting.{Noting}
 use Rattle.ipc_rules.specs.declared.answers.QueuedAnswer.{QueuedAnswer}
 use Rattle.ipc_rules.specs.declared.answers.HoldersAnswer.{HoldersAnswer}
+use Rattle.ipc_rules.specs.declared.answers.WhyAnswer.{WhyAnswer}
+use Rattle.ipc_rules.specs.declared.opening.Asked.the-variants.{Send, Receive, Either}
 use Rattle.logread.specs.Little.{byteAt}
 use Rattle.operations.specs.Done.{Done, done, withChannels}
 use Rattle.operations.specs.Operands.{idAt, taskAt, payloadAt, sizesAt}
 use Rattle.operations.specs.declared.Tables.{Tables}
 use Rattle.operations.specs.declared.fresh.Fresh.{Fresh}
 
+-- ---- the reason at a line's end
+-- request No. 6, "the reason, 1 to 4, only ends the replay lines on which send, receive, park or `queued` prints BadCap": the values of such a
+-- line, by its number. BadCap has none of its own
+unfoldable pub reasoned : WhyAnswer → ℕ → List ℕ → List ℕ
+reasoned why n vs = pick (eqb n no.badCap) (whyValues why) vs
+
+-- the same as the code has it, where BadCap and a reason come together (`ReasonsTie`)
+unfoldable pub reasonedIn : WhyAnswer → Shown → Shown
+reasonedIn why s = pick (eqb (s .number) no.badCap) (shown (whyNumber why) (whyValues why)) s
+
 -- ---- what a call's answer and table come to
 abbrev pub afterCreate : Tables → Creation → Done
 afterCreate t r = done (createNumber (r .answer)) (createValues (r .answer)) (withChannels t (r .table))
 
-abbrev pub afterSend : Tables → Sending → Done
-afterSend t r = done (sendNumber (r .answer)) (sendValues (r .answer)) (withChannels t (r .table))
+abbrev pub afterSend : Tables → WhyAnswer → Sending → Done
+afterSend t why r = done (sendNumber (r .answer)) (reasoned why (sendNumber (r .answer)) (sendValues (r .answer))) (withChannels t (r .table))
 
-abbrev pub afterReceive : Tables → Receiving → Done
-afterReceive t r = done (recvNumber (r .answer)) (recvValues (r .answer)) (withChannels t (r .table))
+abbrev pub afterReceive : Tables → WhyAnswer → Receiving → Done
+afterReceive t why r = done (recvNumber (r .answer)) (reasoned why (recvNumber (r .answer)) (recvValues (r .answer))) (withChannels t (r .table))
 
-abbrev pub afterPark : Tables → Parking → Done
-afterPark t r = done (parkNumber (r .answer)) (parkValues (r .answer)) (withChannels t (r .table))
+abbrev pub afterPark : Tables → WhyAnswer → Parking → Done
+afterPark t why r = done (parkNumber (r .answer)) (reasoned why (parkNumber (r .answer)) (parkValues (r .answer))) (withChannels t (r .table))
 
-abbrev pub afterQueued : Tables → QueuedAnswer → Done
-afterQueued t a = done (queuedNumber a) (queuedValues a) t
+abbrev pub afterQueued : Tables → WhyAnswer → QueuedAnswer → Done
+afterQueued t why a = done (queuedNumber a) (reasoned why (queuedNumber a) (queuedValues a)) t
 
 abbrev pub afterRevoke : Tables → Revoking → Done
 afterRevoke t r = done (revokeNumber (r .answer)) (revokeValues (r .answer)) (withChannels t (r .table))
@@ -82,21 +97,21 @@ newDone log t =
 unfoldable pub createDone : List ℕ → Tables → Done
 createDone log t = afterCreate t (createOf (t .channels) (not (eqb (byteAt log 3) 0)))
 
--- 2, send (id, tag, a, b, row)
+-- 2, send (id, tag, a, b, row); 2 to 5 ask the table as they find it why the id opens nothing
 unfoldable pub sendDone : List ℕ → Tables → Done
-sendDone log t = afterSend t (sendOf (t .channels) (idAt log 3) (payloadAt log 7) (byteAt log 27))
+sendDone log t = afterSend t (whyOf (t .channels) (idAt log 3) Send) (sendOf (t .channels) (idAt log 3) (payloadAt log 7) (byteAt log 27))
 
 -- 3, receive (id)
 unfoldable pub receiveDone : List ℕ → Tables → Done
-receiveDone log t = afterReceive t (recvOf (t .channels) (idAt log 3))
+receiveDone log t = afterReceive t (whyOf (t .channels) (idAt log 3) Receive) (recvOf (t .channels) (idAt log 3))
 
 -- 4, park (id, task)
 unfoldable pub parkDone : List ℕ → Tables → Done
-parkDone log t = afterPark t (parkOf (t .channels) (idAt log 3) (taskAt log 7))
+parkDone log t = afterPark t (whyOf (t .channels) (idAt log 3) Receive) (parkOf (t .channels) (idAt log 3) (taskAt log 7))
 
 -- 5, queued (id)
 unfoldable pub queuedDone : List ℕ → Tables → Done
-queuedDone log t = afterQueued t (queuedOf (t .channels) (idAt log 3))
+queuedDone log t = afterQueued t (whyOf (t .channels) (idAt log 3) Either) (queuedOf (t .channels) (idAt log 3))
 
 -- 6, revoke (id)
 unfoldable pub revokeDone : List ℕ → Tables → Done

@@ -6,18 +6,19 @@ ghost use Rattle.operations.specs.Channels.{queuedDone, holdersDone, not
 use crate::Outcome;
 use crate::Tables;
 use crate::operands::id_at;
+use crate::reasons::with_reason;
 use ipc_rules::answers::RefusalsAnswer;
+use ipc_rules::opening::Asked;
 
 // 5.
 pub fn op_queued(t: Tables, log: &[u8]) -> Outcome
     requires { ⌜ Sound (t .channels) ⌝ }
     ensures { λ r. ⌜ r ≡ packed (queuedDone (now (log .entry)) t) ⌝ }
 {
-    let answer = ipc_queue::inner::queued(t.channels, id_at(log, 3));
-    Outcome {
-        shown: answer.shown(),
-        tables: t,
-    }
+    let cap = id_at(log, 3);
+    let answer = ipc_queue::inner::queued(t.channels, cap);
+    let shown = with_reason(answer.shown(), t.channels, cap, Asked::Either);
+    Outcome { shown, tables: t }
 }
 
 // 9.

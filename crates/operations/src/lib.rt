@@ -10,6 +10,7 @@ mod joined_steps;
 mod messages;
 mod mints;
 mod operands;
+mod reasons;
 mod rows;
 
 use capslots::Table as Rows;

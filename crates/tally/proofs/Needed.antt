@@ -13,7 +13,7 @@ use Rattle.mint.specs.Generation.{nextGeneration}
 use Rattle.ipc_rules.specs.Counts.{raised}
 use Rattle.ipc_rules.specs.Create.{createOf}
 use Rattle.ipc_rules.specs.Holds.{registered, registeredAll, registerOf, released, releasedAll, releaseOf}
-use Rattle.ipc_rules.specs.Opening.{openOf, openAny, openingOf, anyRightOf, holdOf, opened}
+use Rattle.ipc_rules.specs.Opening.{attemptOf, told, openOf, openAny, openingOf, anyRightOf, holdOf, opened}
 use Rattle.joined.specs.Steps.{spawnOf, leaveOf, giveOf, installs}
 use Rattle.ipc_rules.specs.Revoke.{killed, wiped, revokeOf}
 use Rattle.dispatcher_rules.specs.Bound.{boundTest}
@@ -26,7 +26,7 @@ use Rattle.tally.specs.Runs.{after, ifCreated, ifOpened}
 use Rattle.tally.specs.Needed.{stepsFrom, keptRuns, brokenRuns, PremisesNeeded}
 
 computed : allAgree (keptRuns ++ brokenRuns) ≡ true
-unfolding allAgree same stepsFrom after ifCreated sumOver overSlots pick every found lowest lowestFree readWord orVacant wordOf slotsOf seedOf installOf drainOf nextGeneration raised createOf registered registeredAll registerOf released releasedAll releaseOf openOf openingOf holdOf opened spawnOf leaveOf giveOf installs transferOf classOf makeOf boundTest openJobOf creates givesBoth closeJobOf endOf revokeOf killed wiped anyRightOf openAny emptySlotOf forgetIn forgottenOf ifOpened
+unfolding allAgree same stepsFrom after ifCreated sumOver overSlots pick every found lowest lowestFree readWord orVacant wordOf slotsOf seedOf installOf drainOf nextGeneration raised createOf registered registeredAll registerOf released releasedAll releaseOf openOf openingOf holdOf opened spawnOf leaveOf giveOf installs transferOf classOf makeOf boundTest openJobOf creates givesBoth closeJobOf endOf revokeOf killed wiped anyRightOf openAny emptySlotOf forgetIn forgottenOf ifOpened attemptOf told
 computed = refl
 
 pub premises-needed : PremisesNeeded
