@@ -33,6 +33,9 @@ class Command:
     is_example: str
     forms: tuple  # of text, beside bytes, that a file may have
     say: Callable  # from what is played to a function that says a line in words
+    valued: tuple = ()  # options beside --read that take a value
+    plain: tuple = ()  # and that take none
+    show: Callable = None  # what is shown where one of these is given, in place of the lines
 
     @property
     def variable(self):
@@ -64,12 +67,15 @@ def main(command, arguments):
     if "-h" in options(arguments) or "--help" in options(arguments):
         put(HELP.format(own=command.help.strip(), name=command.name, plays=command.plays, variable=command.variable))
         return 0
-    file, read = understood(command, arguments)
+    file, given = understood(command, arguments)
     if file is None:
         tell(f"no FILE is named, so this is {command.is_example}, {command.example}; ./{command.name} - reads standard input")
     content = contents(command, file)
-    said, status = played(program(command), content)
-    put(in_words(said, command.say(content)) if read else said)
+    said, status = played(program(command.name, command.does), content)
+    if given.keys() - {"--read"}:
+        put(command.show(content, said, given))
+    else:
+        put(in_words(said, command.say(content)) if given else said)
     last = re.search(rb"(?:\A|\n)(end|bad) [0-9 ]+\n\Z", said)
     if status or not last:
         how = f", with status {status}" if status else ""
@@ -83,15 +89,26 @@ def options(arguments):
 
 
 def understood(command, arguments):
-    """The file that the words name, if any, and whether they ask for words."""
-    before = options(arguments)
-    files = [word for word in before if word == "-" or not word.startswith("-")] + arguments[len(before) + 1 :]
-    unknown = [word for word in before if word not in files and word != "--read"]
-    if unknown:
-        raise Failure(f"there is no option {shown(unknown[0])}; -h explains")
+    """The file that the words name, if any, and the options with their values."""
+    before, files, given = list(options(arguments)), [], {}
+    behind = arguments[len(before) + 1 :]
+    while before:
+        word = before.pop(0)
+        name, equals, value = word.partition("=")
+        if name in command.valued:
+            if not equals and not before:
+                raise Failure(f"{name} has a value behind it; -h explains")
+            given[name] = value if equals else before.pop(0)
+        elif word in ("--read", *command.plain):
+            given[word] = ""
+        elif word == "-" or not word.startswith("-"):
+            files.append(word)
+        else:
+            raise Failure(f"there is no option {shown(word)}; -h explains")
+    files += behind
     if len(files) > 1:
         raise Failure(f"one {command.plays} at most, and {len(files)} are named; -h explains")
-    return (files[0] if files else None), "--read" in before
+    return (files[0] if files else None), given
 
 
 def contents(command, file):
@@ -108,28 +125,29 @@ def contents(command, file):
     return content
 
 
-def program(command):
-    """The words that start the program, which is current then."""
-    if os.environ.get(command.variable):
+def program(name, does):
+    """The words that start the program of this name, which is current then."""
+    variable = name.upper()
+    if os.environ.get(variable):
         try:
-            words = shlex.split(os.environ[command.variable])
+            words = shlex.split(os.environ[variable])
             if words:
                 return words
             raise ValueError("it is blank")
         except ValueError as why:
-            raise Failure(f"{command.variable} is no command: {why}") from None
+            raise Failure(f"{variable} is no command: {why}") from None
     how = subprocess.run([RUN, "--how"], stdout=subprocess.DEVNULL, stderr=subprocess.PIPE)
     if how.returncode:
         raise Failure(how.stderr.decode(errors="replace").strip())
     try:
-        wrong = building.build(TOP, command.name, tell)
+        wrong = building.build(TOP, name, tell)
     except OSError as why:
         raise Failure(f"rt, the kit's command, cannot be run: {why.strerror}") from None
     if wrong:
         tell("\n".join(wrong))
-        on_rust = f"{command.variable}='tools/oracle {command.name}' {command.does} on the Rust"
-        raise Failure(f"rt check {command.name} failed, and target/log has what it said; {on_rust}")
-    return [RUN, os.path.join(TOP, "target", "bin", command.name)]
+        on_rust = f"{variable}='tools/oracle {name}' {does} on the Rust"
+        raise Failure(f"rt check {name} failed, and target/log has what it said; {on_rust}")
+    return [RUN, os.path.join(TOP, "target", "bin", name)]
 
 
 def played(words, content):
@@ -143,7 +161,10 @@ def played(words, content):
 
 def in_words(said, say):
     """The same with each line in words beside it."""
-    lines = said.decode("ascii", "backslashreplace").splitlines()
+    return beside(said.decode("ascii", "backslashreplace").splitlines(), say)
+
+
+def beside(lines, say):
     wide = max(map(len, lines), default=0)
     return "".join(f"{line:{wide}}   {say(line)}\n" for line in lines)
 

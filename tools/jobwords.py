@@ -4,10 +4,10 @@ Nothing is decided here: what was accepted or refused is the program's answer, a
 """
 from dataclasses import dataclass
 
-import jobscript
 import words
+from operations import JOBS, ROWS, VARIANTS, refusal
 
-ROWS, SLOTS, PLACES = 54, 4, 16
+SLOTS, PLACES = 4, 16
 COUNTS = {1: "authority", 2: "full", 4: "state"}
 WHY_BAD = {22: "a record starts with 4B 4A", 23: "operations are 0 to 7", 24: "the record is cut short"}
 
@@ -29,7 +29,7 @@ class Teller:
     """Says the lines of a script one after the other, from the first."""
 
     def __init__(self, script):
-        self.records = [record for _, record in jobscript.records(script)]
+        self.records = [record for _, record in JOBS.records(script)]
         self.depth, self.bound, self.opened = 8, {}, 0
         self.forget()
 
@@ -48,24 +48,22 @@ class Teller:
         why = f": {WHY_BAD[number]}" if number in WHY_BAD else ""
         return words.faulty(offset, number, "script") + why
 
-    def answered(self, number, operation, refusal, *values):
+    def answered(self, number, operation, no, *values):
         """An answer beside its record; what was accepted is remembered."""
         record = self.records[number - 1]
         if record[2] != operation:
             raise ValueError
-        name = jobscript.OPERATIONS[operation][0]
-        asked, accepted, refused = getattr(self, name)(number, Operands(record[3:]))
-        if refusal:
-            count = f"; counted under {COUNTS[refusal]}" if refusal in COUNTS else ""
-            said = f"{asked}: refused, {words.refusal(refusal)}: {refused(refusal)}{count}"
+        called = JOBS.operations[operation]
+        asked, accepted, refused = getattr(self, called.name)(number, *called.values(record[3:]))
+        if no:
+            count = f"; counted under {COUNTS[no]}" if no in COUNTS else ""
+            said = f"{asked}: refused, {refusal(no)}: {refused(no)}{count}"
         else:
             said = accepted(*values)
         return f"record {number}: {said}"
 
-    def new(self, number, operands):
-        sizes = [operands.number(1) for _ in range(3)]
-        count = operands.number(1)
-        variants = [(operands.tag(), operands.number(1)) for _ in range(jobscript.VARIANTS)]
+    def new(self, number, *operands):
+        *sizes, (count, variants) = operands
 
         def accepted():
             self.depth, self.bound, self.opened = sizes[2], dict(variants[:count]), 0
@@ -74,14 +72,12 @@ class Teller:
             return f"new tables, of {made(sizes)}; bound: {named}"
 
         def refused(refusal):
-            why = bad_sizes(*sizes) if refusal == 20 else bad_variants(count, variants[:count])
+            why = words.bad_sizes(*sizes) if refusal == 20 else bad_variants(count, variants[:count])
             return f"{why}; everything stays as it was"
 
         return f"new tables, of {made(sizes)}, for {words.counted(count, 'variant')}", accepted, refused
 
-    def open(self, number, operands):
-        tag, row = operands.tag(), operands.number(1)
-
+    def open(self, number, tag, row):
         def accepted(place, send, receive):
             self.opened += 1
             job = Job(self.opened, tag, place, {}, {"send": send, "receive": receive})
@@ -116,9 +112,7 @@ class Teller:
             return f"both ends would go to row {variant}, which has {words.counted(len(empty[variant]), 'empty slot')}"
         return f"row {variant if empty[extractor] else extractor} has no empty slot"
 
-    def close(self, number, operands):
-        place = operands.number(1)
-
+    def close(self, number, place):
         def accepted(*waiter):
             job = self.jobs.pop(place)
             for slot in job.ends:
@@ -132,9 +126,8 @@ class Teller:
 
         return f"closing place {place}", accepted, refused
 
-    def send(self, number, operands):
-        slot = operands.slot()
-        message = words.message(operands.number(4), operands.number(8), operands.number(8))
+    def send(self, number, *operands):
+        slot, message = operands[:2], words.message(*operands[2:])
 
         def accepted(*waiter):
             job = self.slots[slot]
@@ -146,9 +139,7 @@ class Teller:
 
         return f"row {slot[0]} sends by {slot_of(slot)} ({message})", accepted, refused
 
-    def receive(self, number, operands):
-        slot = operands.slot()
-
+    def receive(self, number, *slot):
         def accepted(*message):
             return f"row {slot[0]} receives by {slot_of(slot)}, from {self.slots[slot]}: {words.given(*message)}"
 
@@ -157,9 +148,8 @@ class Teller:
 
         return f"row {slot[0]} receives by {slot_of(slot)}", accepted, refused
 
-    def park(self, number, operands):
-        slot = operands.slot()
-        task = words.tasks([1, operands.number(2), operands.number(2)])[0]
+    def park(self, number, *operands):
+        slot, task = operands[:2], words.tasks([1, *operands[2:]])[0]
 
         def accepted(given, *message):
             job = self.slots[slot]
@@ -184,9 +174,7 @@ class Teller:
             return f"the slot holds the {self.slots[slot].ends[slot]} id of {self.slots[slot]}, which does not {end}"
         return ""
 
-    def row(self, number, operands):
-        row = operands.number(1)
-
+    def row(self, number, row):
         def accepted(*values):
             held = [self.held(row, slot, place) for slot, place in enumerate(words.places(values, 1))]
             return f"row {row} has " + (", ".join(filter(None, held)) or f"{SLOTS} empty slots")
@@ -201,7 +189,7 @@ class Teller:
         whose = f"the {job.ends[row, slot]} id of {job}" if job and job.ids[job.ends[row, slot]] == place[0] else "of no job that is open"
         return f"in slot {slot} id {place[0]}, {whose}"
 
-    def counts(self, number, operands):
+    def counts(self, number):
         def accepted(authority, full, state):
             return f"refusals counted so far: authority {authority}, full {full}, state {state}"
 
@@ -211,42 +199,14 @@ class Teller:
         return f"{job}, which row {self.bound[job.tag]} reads"
 
 
-class Operands:
-    """What is left of a record's operands; each reading takes its own off."""
-
-    def __init__(self, content):
-        self.left = content
-
-    def take(self, length):
-        taken, self.left = self.left[:length], self.left[length:]
-        return taken
-
-    def number(self, length):
-        return int.from_bytes(self.take(length), "little")
-
-    def slot(self):
-        return self.number(1), self.number(1)
-
-    def tag(self):
-        """As the words of a script have it."""
-        tag = self.take(5).decode("latin-1")
-        return tag if jobscript.TEXT_TAG.fullmatch(tag) else f"0x{tag.encode('latin-1').hex()}"
-
-
 def made(sizes):
     mailboxes, endpoints, depth = sizes
     return f"{words.counted(mailboxes, 'mailbox', 'mailboxes')}, {words.counted(endpoints, 'endpoint')} and depth {depth}"
 
 
-def bad_sizes(mailboxes, endpoints, depth):
-    if mailboxes > 32:
-        return f"{mailboxes} mailboxes, and there are at most 32"
-    return f"{endpoints} endpoints, and there are at most 64" if endpoints > 64 else f"depth {depth}, and it is 1 to 8"
-
-
 def bad_variants(count, variants):
-    if count > jobscript.VARIANTS:
-        return f"{count} variants, and there are at most {jobscript.VARIANTS}"
+    if count > VARIANTS:
+        return f"{count} variants, and there are at most {VARIANTS}"
     tags = [tag for tag, _ in variants]
     equal = next((tag for tag in tags if tags.count(tag) > 1), None)
     row = next((row for _, row in variants if row >= ROWS), None)

@@ -69,4 +69,28 @@ def unhex(content):
     return bytes(log)
 
 
+def by_line(content, read):
+    """What `read` makes of the words of each line that has some, and of its number; its complaints get the line before them."""
+    for number, line in lines(content):
+        try:
+            if line.split():
+                yield read(line.split(), number)
+        except ValueError as why:
+            raise ValueError(f"line {number}, {line.strip()[:60]!a}: {why}") from None
+
+
+def words(name, mark, said):
+    """A form of words, one operation a line, for what starts with this mark as bytes."""
+
+    def begins(content):
+        """Whether the first word, after comments, is one of letters, and so no hex and no bytes; None where there is none yet."""
+        for _, line in lines(content):
+            if start := line.lstrip(BLANKS):
+                word = re.match(r"[A-Za-z]+(?![^\s])", start)
+                return bool(word) and not word[0].startswith(mark.decode()) and not re.fullmatch("[0-9a-fA-F]+", word[0])
+        return None
+
+    return Form(name, begins, said)
+
+
 HEX = Form("hex", begins_as_hex, unhex)
