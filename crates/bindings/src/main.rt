@@ -10,7 +10,7 @@ mod line;
 mod slots;
 
 // What one turn found: a case of so many bytes, which was answered, or the input's end, or damage.
-#[derive(Drop)]
+#[derive(Clone, Copy)]
 enum Turn {
     Answered(u16),
     Ended,

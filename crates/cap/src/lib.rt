@@ -11,7 +11,7 @@ pub use word::{WordAnswer, read_word, slot_at, word_of, words_read};
 
 // An opaque id: a table index in the low 16 bits, the generation that it was made in above them.
 // Anyone can build any id; what makes one worthless is the table that does not open it.
-#[derive(Drop)]
+#[derive(Clone, Copy)]
 pub struct CapId {
     pub raw: u32,
 }
@@ -22,7 +22,7 @@ pub const TASK_BAND: u16 = 16384;
 pub const IRQ_BAND: u16 = 32768;
 
 // What an id's index names, by its class bits.
-#[derive(Drop)]
+#[derive(Clone, Copy)]
 pub enum CapClass {
     Endpoint(u16),
     Task(u16),
@@ -83,7 +83,7 @@ impl CapId {
 }
 
 // Endpoint rights, as bit flags.
-#[derive(Drop)]
+#[derive(Clone, Copy)]
 pub struct CapRights {
     pub bits: u8,
 }

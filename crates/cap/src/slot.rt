@@ -11,14 +11,14 @@ use shown::Shown;
 pub const ROWS: usize = 54;
 
 // A place for an id. A vacant one is all zero, and its id is never read; raw 0 present is an id.
-#[derive(Drop)]
+#[derive(Clone, Copy)]
 pub struct Slot {
     pub present: bool,
     pub id: CapId,
 }
 
 // What a row holds at a slot. Two refusals, since they are two faults: a slot outside the row, and one in it that nobody filled.
-#[derive(Drop)]
+#[derive(Clone, Copy)]
 pub enum SlotAnswer {
     Names(CapId),
     OutOfRange { slot: usize, slots: usize },

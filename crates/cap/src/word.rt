@@ -8,7 +8,7 @@ use laws::refusals;
 
 const PRESENT: u64 = 4294967296;
 
-#[derive(Drop)]
+#[derive(Clone, Copy)]
 pub enum WordAnswer {
     Reads(Slot),
     BadWord,

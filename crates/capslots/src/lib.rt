@@ -15,7 +15,7 @@ pub use vacancies::{empty_slot, forget};
 
 pub const SLOTS: usize = 4;
 
-#[derive(Drop)]
+#[derive(Clone, Copy)]
 pub struct Row {
     pub slots: [Slot; SLOTS],
 }

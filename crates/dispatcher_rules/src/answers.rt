@@ -5,7 +5,7 @@ use capslots::Table as Rows;
 use ipc_rules::answers::{ParkAnswer, RecvAnswer, SendAnswer};
 use ipc_rules::state::{Table as Channels, Waiter};
 
-#[derive(Drop)]
+#[derive(Clone, Copy)]
 pub enum MakeAnswer {
     Made,
     BadVariants,
@@ -18,14 +18,14 @@ pub struct Making {
 }
 
 // The place that a job got, and its channel's two ids.
-#[derive(Drop)]
+#[derive(Clone, Copy)]
 pub struct OpenedJob {
     pub place: usize,
     pub send: CapId,
     pub recv: CapId,
 }
 
-#[derive(Drop)]
+#[derive(Clone, Copy)]
 pub enum OpenAnswer {
     Opened(OpenedJob),
     // no variant has the tag
@@ -49,7 +49,7 @@ pub struct JobOpening {
     pub channels: Channels,
 }
 
-#[derive(Drop)]
+#[derive(Clone, Copy)]
 pub enum CloseAnswer {
     // the task to wake, if one was parked
     Closed(Waiter),
@@ -58,7 +58,7 @@ pub enum CloseAnswer {
 }
 
 // What the end of a job's channel leaves, and the task to wake.
-#[derive(Drop)]
+#[derive(Clone, Copy)]
 pub struct Ending {
     pub waiter: Waiter,
     pub channels: Channels,
@@ -73,7 +73,7 @@ pub struct JobClosing {
 }
 
 // By row and slot: a refusal of the slot, or what the channel table's own call answers for the id that stands there.
-#[derive(Drop)]
+#[derive(Clone, Copy)]
 pub enum SlotSendAnswer {
     Answered(SendAnswer),
     OutOfRange { slot: usize, slots: usize },
@@ -89,7 +89,7 @@ pub struct SlotSending {
     pub channels: Channels,
 }
 
-#[derive(Drop)]
+#[derive(Clone, Copy)]
 pub enum SlotRecvAnswer {
     Answered(RecvAnswer),
     OutOfRange { slot: usize, slots: usize },
@@ -105,7 +105,7 @@ pub struct SlotReceiving {
     pub channels: Channels,
 }
 
-#[derive(Drop)]
+#[derive(Clone, Copy)]
 pub enum SlotParkAnswer {
     Answered(ParkAnswer),
     OutOfRange { slot: usize, slots: usize },

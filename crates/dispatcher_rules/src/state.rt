@@ -8,20 +8,20 @@ pub const MAX_VARIANTS: usize = 16;
 pub const MAX_JOBS: usize = 16;
 
 // Five bytes, such as `pt_PT`.
-#[derive(Drop)]
+#[derive(Clone, Copy)]
 pub struct Tag {
     pub bytes: [u8; 5],
 }
 
 // A tag bound to a row.
-#[derive(Drop)]
+#[derive(Clone, Copy)]
 pub struct Variant {
     pub tag: Tag,
     pub row: usize,
 }
 
 // A place for one job. Of one that is not open nothing else is read.
-#[derive(Drop)]
+#[derive(Clone, Copy)]
 pub struct Job {
     pub open: bool,
     pub ends: Channel,
@@ -29,7 +29,7 @@ pub struct Job {
 }
 
 // The first `count` variants are bound; the others are not looked at.
-#[derive(Drop)]
+#[derive(Clone, Copy)]
 pub struct Dispatcher {
     pub count: usize,
     pub variants: [Variant; MAX_VARIANTS],

@@ -56,7 +56,7 @@ fn with_digit(value: u64, digit: u8) -> u64 {
 }
 
 // A number, and whether the line ended with it.
-#[derive(Drop)]
+#[derive(Clone, Copy)]
 struct Read {
     value: u64,
     last: bool,

@@ -2,7 +2,7 @@
 use crate::opening::Reason;
 use crate::state::{Channel, Message, Refusals, Table, Waiter};
 
-#[derive(Drop)]
+#[derive(Clone, Copy)]
 pub enum NewAnswer {
     Made,
     BadSizes,
@@ -14,7 +14,7 @@ pub struct New {
     pub table: Table,
 }
 
-#[derive(Drop)]
+#[derive(Clone, Copy)]
 pub enum CreateAnswer {
     Created(Channel),
     NoMailbox,
@@ -28,7 +28,7 @@ pub struct Creation {
     pub table: Table,
 }
 
-#[derive(Drop)]
+#[derive(Clone, Copy)]
 pub enum SendAnswer {
     Sent(Waiter),
     // the sending row is from 54 up
@@ -44,7 +44,7 @@ pub struct Sending {
     pub table: Table,
 }
 
-#[derive(Drop)]
+#[derive(Clone, Copy)]
 pub enum RecvAnswer {
     Received(Message),
     BadCap,
@@ -58,7 +58,7 @@ pub struct Receiving {
     pub table: Table,
 }
 
-#[derive(Drop)]
+#[derive(Clone, Copy)]
 pub enum ParkAnswer {
     Parked,
     Given(Message),
@@ -74,21 +74,21 @@ pub struct Parking {
     pub table: Table,
 }
 
-#[derive(Drop)]
+#[derive(Clone, Copy)]
 pub enum QueuedAnswer {
     Queued(usize),
     BadCap,
     BadTable,
 }
 
-#[derive(Drop)]
+#[derive(Clone, Copy)]
 pub enum HoldersAnswer {
     Holders(u32),
     BadCap,
     BadTable,
 }
 
-#[derive(Drop)]
+#[derive(Clone, Copy)]
 pub enum RegisterAnswer {
     Registered,
     BadWord,
@@ -101,7 +101,7 @@ pub struct Registering {
     pub table: Table,
 }
 
-#[derive(Drop)]
+#[derive(Clone, Copy)]
 pub enum ReleaseAnswer {
     Released,
     BadTable,
@@ -128,7 +128,7 @@ pub struct Revoking {
     pub table: Table,
 }
 
-#[derive(Drop)]
+#[derive(Clone, Copy)]
 pub enum ClearAnswer {
     Cleared(u32),
     BadTable,
@@ -140,7 +140,7 @@ pub struct Clearing {
     pub table: Table,
 }
 
-#[derive(Drop)]
+#[derive(Clone, Copy)]
 pub enum NoteAnswer {
     Noted,
     BadTable,
@@ -152,14 +152,14 @@ pub struct Noting {
     pub table: Table,
 }
 
-#[derive(Drop)]
+#[derive(Clone, Copy)]
 pub enum RefusalsAnswer {
     Counts(Refusals),
     BadTable,
 }
 
 // For the supervisor: an id opens, or for which reason it does not.
-#[derive(Drop)]
+#[derive(Clone, Copy)]
 pub enum WhyAnswer {
     Opens,
     Shut(Reason),

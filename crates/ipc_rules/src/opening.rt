@@ -2,14 +2,14 @@
 ghost use Rattle.std.specs.Prelude.{◌≡◌};
 ghost use Rattle.ipc_rules.specs.Why.{reason_number};
 
-#[derive(Drop)]
+#[derive(Clone, Copy)]
 pub enum Opening {
     Opens(usize),
     Shut,
 }
 
 // Why an id opens nothing, in the order of the tests.
-#[derive(Drop)]
+#[derive(Clone, Copy)]
 pub enum Reason {
     PastEnd,
     Dead,
@@ -18,14 +18,14 @@ pub enum Reason {
 }
 
 // What the four tests of an id come to: a mailbox, or the first that it fails.
-#[derive(Drop)]
+#[derive(Clone, Copy)]
 pub enum Attempt {
     Passes(usize),
     Fails(Reason),
 }
 
 // What an id is tried for. `Either` is one of the first two; a revocation asks for no right.
-#[derive(Drop)]
+#[derive(Clone, Copy)]
 pub enum Asked {
     Send,
     Receive,

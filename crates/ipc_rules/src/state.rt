@@ -13,7 +13,7 @@ pub const MAX_ENDPOINTS: usize = 64;
 pub const MAX_DEPTH: usize = 8;
 
 // What a sender hands in.
-#[derive(Drop)]
+#[derive(Clone, Copy)]
 pub struct Payload {
     pub tag: u32,
     pub a: u64,
@@ -22,7 +22,7 @@ pub struct Payload {
 
 // What stands in a ring and is given out: that, stamped with the sending row. The stamp is the last of its parts; it stands beside the
 // tag so that a message stays at 24 bytes.
-#[derive(Drop)]
+#[derive(Clone, Copy)]
 pub struct Message {
     pub tag: u32,
     pub row: u8,
@@ -30,35 +30,35 @@ pub struct Message {
     pub b: u64,
 }
 
-#[derive(Drop)]
+#[derive(Clone, Copy)]
 pub struct TaskId {
     pub slot: u16,
     pub epoch: u16,
 }
 
 // A place for one parked task.
-#[derive(Drop)]
+#[derive(Clone, Copy)]
 pub struct Waiter {
     pub present: bool,
     pub task: TaskId,
 }
 
 // The two ids of one mailbox.
-#[derive(Drop)]
+#[derive(Clone, Copy)]
 pub struct Channel {
     pub send: CapId,
     pub recv: CapId,
 }
 
 // Refusal counts, kept apart by what they mean: no right, no room, bookkeeping that asked for something impossible.
-#[derive(Drop)]
+#[derive(Clone, Copy)]
 pub struct Refusals {
     pub authority: u32,
     pub full: u32,
     pub state: u32,
 }
 
-#[derive(Drop)]
+#[derive(Clone, Copy)]
 pub struct Endpoint {
     pub live: bool,
     pub generation: u16,
@@ -67,7 +67,7 @@ pub struct Endpoint {
 }
 
 // The ring's places are in the table's `messages`. An ephemeral mailbox gives its waiter up when the last send hold goes.
-#[derive(Drop)]
+#[derive(Clone, Copy)]
 pub struct Mailbox {
     pub live: bool,
     pub ring: Ring,
@@ -76,7 +76,7 @@ pub struct Mailbox {
     pub ephemeral: bool,
 }
 
-#[derive(Drop)]
+#[derive(Clone, Copy)]
 pub struct Sizes {
     pub mailboxes: usize,
     pub endpoints: usize,
@@ -84,7 +84,7 @@ pub struct Sizes {
 }
 
 // What counts on over the table's life: the generation that the next channel gets, and the refusals so far.
-#[derive(Drop)]
+#[derive(Clone, Copy)]
 pub struct Counters {
     pub next_gen: u16,
     pub refusals: Refusals,

@@ -30,7 +30,7 @@ pub struct Outcome {
 }
 
 // Whether a step took its record, or the fault that stopped it. `NoRoom` is for whoever writes lines.
-#[derive(Drop)]
+#[derive(Clone, Copy)]
 pub enum StepAnswer {
     Took,
     Short,

@@ -9,7 +9,7 @@ use ipc_rules::state::{Table as Channels, Waiter};
 use laws::refusals;
 use shown::Shown;
 
-#[derive(Drop)]
+#[derive(Clone, Copy)]
 pub enum SpawnAnswer {
     Spawned,
     BadWord,
@@ -26,7 +26,7 @@ pub struct Spawning {
     pub rows: Rows,
 }
 
-#[derive(Drop)]
+#[derive(Clone, Copy)]
 pub enum LeaveAnswer {
     Left,
     BadRow,
@@ -43,7 +43,7 @@ pub struct Leaving {
 }
 
 // As for an install, a bad row, a bad slot and an occupied one are one refusal.
-#[derive(Drop)]
+#[derive(Clone, Copy)]
 pub enum GiveAnswer {
     Given,
     BadSlot,

@@ -3,7 +3,7 @@
 pub mod refusals;
 
 // What a search for the lowest free place finds.
-#[derive(Drop)]
+#[derive(Clone, Copy)]
 pub enum Found {
     At(usize),
     Nowhere,

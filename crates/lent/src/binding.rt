@@ -7,7 +7,7 @@ use cap::{CapId, Slot};
 use manifest::{AgentEntry, Binding, Want, choose, in_order};
 
 // What the records up to `at` have at the index that each of the entry's slots wants, vacant where the list did not come that far.
-#[derive(Drop)]
+#[derive(Clone, Copy)]
 struct Gathered {
     entry: AgentEntry,
     found: [Slot; 4],

@@ -16,7 +16,7 @@ const END: [u8; 3] = [101, 110, 100];
 
 const BAD: [u8; 3] = [98, 97, 100];
 
-#[derive(Drop)]
+#[derive(Clone, Copy)]
 pub enum Written {
     // The line stands before this place of what was lent.
     Upto(usize),

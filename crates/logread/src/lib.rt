@@ -16,7 +16,7 @@ pub use little::{byte_at, u16_at, u32_at, u64_at};
 const MARK: [u8; 2] = [75, 67];
 
 // What a log starts with: a whole record, or its first fault. `len` counts the whole record, mark and operation included.
-#[derive(Drop)]
+#[derive(Clone, Copy)]
 pub enum Read {
     Whole { op: u8, len: usize },
     Short,

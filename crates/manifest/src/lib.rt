@@ -12,20 +12,20 @@ pub const MAX_SLOTS: usize = 4;
 pub const PACKET_CAPABILITY_START: u8 = 3;
 
 // An entry's slot: an optional index into the held list. It is no id, so that an entry can reach nothing outside that list.
-#[derive(Drop)]
+#[derive(Clone, Copy)]
 pub struct Want {
     pub present: bool,
     pub index: u8,
 }
 
-#[derive(Drop)]
+#[derive(Clone, Copy)]
 pub struct AgentEntry {
     pub slots: [Want; MAX_SLOTS],
     pub packet_pool: bool,
 }
 
 // An index past the list asks for too much; a vacant place in it was promised and nobody filled it. So they are two refusals.
-#[derive(Drop)]
+#[derive(Clone, Copy)]
 pub enum BindAnswer {
     Bound,
     NoSuchCapability { slot: usize, index: u8, held: usize },
@@ -53,14 +53,14 @@ impl BindAnswer {
 }
 
 // What one entry slot comes to.
-#[derive(Drop)]
+#[derive(Clone, Copy)]
 pub enum Choice {
     Takes(Slot),
     Refuses(BindAnswer),
 }
 
 // The four places that the entry's slots take from the held list: all vacant where it is refused.
-#[derive(Drop)]
+#[derive(Clone, Copy)]
 pub struct Binding {
     pub answer: BindAnswer,
     pub slots: [Slot; MAX_SLOTS],

@@ -10,7 +10,7 @@ use laws::refusals;
 use shown::Shown;
 
 // One entry of a mint table. A dead one keeps the generation of its last life, so that an id of that life stays worthless.
-#[derive(Drop)]
+#[derive(Clone, Copy)]
 pub struct Entry {
     pub live: bool,
     pub generation: u16,
@@ -32,7 +32,7 @@ pub enum MintAnswer {
     NoFreeEntry,
 }
 
-#[derive(Drop)]
+#[derive(Clone, Copy)]
 pub enum LookupAnswer {
     Names(u32),
     BadCap,

@@ -13,7 +13,7 @@ pub mod inner;
 pub mod replay;
 
 // Whether a step took its record, or the fault that stopped it.
-#[derive(Drop)]
+#[derive(Clone, Copy)]
 pub enum StepAnswer {
     Took,
     Short,

@@ -5,7 +5,7 @@ pub mod inner;
 ghost use Rattle.std.specs.Prelude.{◌≡◌};
 ghost use Rattle.ring.specs.Ring.{is_fresh_ring};
 
-#[derive(Drop)]
+#[derive(Clone, Copy)]
 pub struct Ring {
     pub head: usize,
     pub tail: usize,

@@ -3,7 +3,7 @@ ghost use Rattle.std.specs.Prelude.{◌≡◌, [], ◌∷◌};
 ghost use Rattle.shown.specs.Shown.{shown, pushed};
 
 // `count` of the values are shown, from the first on; the others are 0.
-#[derive(Drop)]
+#[derive(Clone, Copy)]
 pub struct Shown {
     pub number: u8,
     pub values: [u64; 12],

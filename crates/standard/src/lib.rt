@@ -9,7 +9,7 @@ use libc::{STDERR_FILENO, STDIN_FILENO};
 const ROOM: usize = 65537;
 
 // How many bytes came, and whether no read failed.
-#[derive(Drop)]
+#[derive(Clone, Copy)]
 pub struct Taken {
     pub got: usize,
     pub whole: bool,
