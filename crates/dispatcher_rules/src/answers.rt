@@ -58,7 +58,7 @@ pub enum CloseAnswer {
 }
 
 // What the end of a job's channel leaves, and the task to wake.
-#[derive(Clone, Copy)]
+#[derive(Drop)]
 pub struct Ending {
     pub waiter: Waiter,
     pub channels: Channels,
