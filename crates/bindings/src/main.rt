@@ -1,5 +1,7 @@
 // Reads cases of `bind` on standard input and writes the answer to each, one line a case, in which the form on words and the form on
 // slot records agree. Damaged input, a case that is cut short or has a flag above 1, ends with `bad` and that case's offset.
+#![tactic(auto)]
+
 ghost use Rattle.std.specs.Prelude.{◌≤◌, length};
 
 use libc::STDIN_FILENO;

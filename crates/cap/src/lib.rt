@@ -1,4 +1,6 @@
 // Capability ids, their classes and rights, and the slots that hold them. Ported from cap.rs.
+#![tactic(auto)]
+
 ghost use Rattle.std.specs.Prelude.{◌≡◌};
 ghost use Rattle.cap.specs.Id.{id_of, index_of, generation_of, class_of};
 ghost use Rattle.cap.specs.Rights.{no_rights, contains_all, union_of};

@@ -1,4 +1,6 @@
 // The capability rows: what each task may name, a slot of its own row. Ported from capslots.rs; rows are named by task slot.
+#![tactic(auto)]
+
 ghost use Rattle.std.specs.Prelude.{◌≡◌};
 ghost use Rattle.capslots.specs.Table.{fresh_table};
 ghost use Rattle.capslots.specs.Rows.{names_id, get_of, holds_of, seed_of, install_of, drain_of};

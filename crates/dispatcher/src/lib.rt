@@ -2,6 +2,8 @@
 //
 // These are the calls that anyone may make, on any tables and any operands: each but `make` tests the lent channel table and the lent
 // dispatcher first, and refuses with 27. Crates that have shown both to be fit call `inner` and do not pay for the test again.
+#![tactic(auto)]
+
 ghost use Rattle.std.specs.Prelude.{◌≡◌, true};
 ghost use Rattle.dispatcher_rules.specs.Border.{Ready, ready_test, open_job_call, close_job_call, slot_send_call, slot_recv_call, slot_park_call};
 

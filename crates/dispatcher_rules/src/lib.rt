@@ -2,6 +2,8 @@
 //
 // The rules of the calls are in specs/, with what they promise on every input, and the laws about them in proofs/. The code of the calls stands above this crate, so that whoever
 // reasons about them rests on the rules alone.
+#![tactic(auto)]
+
 pub mod answers;
 pub mod numbers;
 pub mod showing;

@@ -1,5 +1,7 @@
 // Reads an operation log on standard input, prints what replay prints of it, and then every field of every table, one a line. Each
 // function answers whether what it prints was written whole.
+#![tactic(auto)]
+
 ghost use Rattle.std.specs.Prelude.{◌<◌};
 
 use capslots::{Row, Table as Rows};

@@ -1,6 +1,8 @@
 // Tries the calls that make, bind and lend ids at their edges, on the compiled code: both mints, `bind`, the calls over references, and an
 // id through all generations. The script on standard input is read as that of `edges`, with the numbers of `op` beside. What is expected,
 // in the file stdout, is written from document 01.
+#![tactic(auto)]
+
 use edgecalls::channels;
 use edgescript::{operands, print, script};
 

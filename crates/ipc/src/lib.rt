@@ -3,6 +3,8 @@
 // These are the calls that anyone may make, on any table and any operands: each tests the lent table first and refuses one that is not
 // sound with 27. Crates that have shown their table to be sound call the functions of `ipc_life`,
 // `ipc_queue` and `ipc_holds` and do not pay for the test again.
+#![tactic(auto)]
+
 ghost use Rattle.std.specs.Prelude.{◌≡◌, true, false};
 ghost use Rattle.ipc_sound.specs.Border.{create_call, send_call, recv_call, park_call, queued_call, why_call, holders_call, register_call, release_call, revoke_call, clear_call, note_authority_call, note_state_call, refusals_call};
 

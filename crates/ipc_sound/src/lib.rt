@@ -1,4 +1,6 @@
 // Whether a channel table that was lent is one that the calls keep: the test before every call, refusal 27.
+#![tactic(auto)]
+
 ghost use Rattle.std.specs.Prelude.{◌≡◌, true, ℕ, ◌<◌, ◌≤◌, get_or};
 ghost use Rattle.cap.specs.Rights.{send_right, receive_right};
 ghost use Rattle.laws.specs.Every.{every};

@@ -1,4 +1,6 @@
 // IRQ notification ids: 8 entries over cookies, never freed. Ported from irqcap.rs.
+#![tactic(auto)]
+
 ghost use Rattle.std.specs.Prelude.{◌≡◌};
 ghost use Rattle.irqcap.specs.Table.{fresh_table, free_entry_of, mint_of, lookup_of};
 

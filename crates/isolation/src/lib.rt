@@ -1,1 +1,2 @@
 // What holds of every sequence of dispatcher calls from fresh tables: definitions and theorems, no functions.
+#![tactic(auto)]

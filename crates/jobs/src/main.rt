@@ -1,5 +1,7 @@
 // Reads a job script on standard input and prints a line for each record, then `end` and their number, or `bad`, an offset and a fault's
 // number. What is printed is the library's, part after part.
+#![tactic(auto)]
+
 use laws::refusals;
 use libc::STDOUT_FILENO;
 

@@ -2,6 +2,8 @@
 //
 // A call here tests the lent desk first and refuses one that is not ready with 27; `inner` has the same calls on a desk that is known to be
 // ready.
+#![tactic(auto)]
+
 ghost use Rattle.std.specs.Prelude.{◌≡◌};
 ghost use Rattle.jobscript.specs.Step.{step_number, step_call};
 

@@ -1,6 +1,8 @@
 // The text that a job script comes to, over lent buffers: each call goes on from a place of the script and fills a buffer with the next part.
 //
 // `inner` has what is lent a desk that is known to be ready.
+#![tactic(auto)]
+
 ghost use Rattle.std.specs.Prelude.{◌≡◌, length};
 ghost use Rattle.line.specs.Put.{written};
 ghost use Rattle.jobtext.specs.Text.{start_place};

@@ -2,6 +2,8 @@
 //
 // These are the steps that anyone may take, on any tables and any operands: each tests the lent channel table first and refuses one that
 // is not sound with 27. Crates that have shown their table to be sound call `inner` and do not pay for the test again.
+#![tactic(auto)]
+
 ghost use Rattle.std.specs.Prelude.{◌≡◌};
 ghost use Rattle.joined.specs.Border.{spawn_call, leave_call, give_call};
 

@@ -1,5 +1,7 @@
 // The lines that replay prints. Each is built in a local buffer, measured, and put at the start of the free tail of the answer buffer, which
 // is what a writer here is lent, where it fits.
+#![tactic(auto)]
+
 ghost use Rattle.std.specs.Prelude.{◌≡◌, take};
 ghost use Rattle.line.specs.Line.{line_of, end_of, bad_of};
 ghost use Rattle.line.specs.Put.{written, put_of, written_number};

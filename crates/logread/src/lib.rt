@@ -1,4 +1,6 @@
 // What one record of the log says of itself: its mark, its operation, how long it is, and whether its operands are well formed.
+#![tactic(auto)]
+
 ghost use Rattle.std.specs.Prelude.{◌≡◌};
 ghost use Rattle.logread.specs.Read.{read_of, read_number};
 

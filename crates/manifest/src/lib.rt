@@ -1,4 +1,6 @@
 // An entry's slots bound to the held list. Of manifest.rs only `bind`, with an entry's slots and packet pool.
+#![tactic(auto)]
+
 ghost use Rattle.std.specs.Prelude.{◌≡◌, length};
 ghost use Rattle.cap.specs.Word.{slot_at};
 ghost use Rattle.manifest.specs.Bind.{bind_number, refused_by, choice_from, in_order, bind_of};

@@ -1,4 +1,6 @@
 // What the two mint tables share: an entry, its generations, and the answers. Ported from irqcap.rs and taskcap.rs.
+#![tactic(auto)]
+
 ghost use Rattle.std.specs.Prelude.{◌≡◌};
 ghost use Rattle.shown.specs.Shown.{shown};
 ghost use Rattle.mint.specs.Generation.{next_generation};

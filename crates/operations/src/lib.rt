@@ -1,6 +1,8 @@
 // What each operation of the log does to the tables, and what its line shows.
 //
 // `inner::apply` is lent tables whose channel table is known to be sound, and leaves one that is; the other modules are its own.
+#![tactic(auto)]
+
 mod channels;
 mod counts;
 mod fresh;

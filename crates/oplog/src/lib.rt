@@ -2,6 +2,8 @@
 //
 // A call here tests the lent channel table first and refuses one that is not sound with 27; `inner` has the same calls on tables that
 // are known to be sound.
+#![tactic(auto)]
+
 ghost use Rattle.std.specs.Prelude.{◌≡◌};
 ghost use Rattle.oplog.specs.Border.{step_call, step_leaves};
 ghost use Rattle.oplog.specs.Step.{step_number};

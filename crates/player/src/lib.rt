@@ -1,4 +1,6 @@
 // Plays a log: reads it on standard input and prints its text on standard output. What is printed is the library's, part after part.
+#![tactic(auto)]
+
 use laws::refusals;
 use libc::STDOUT_FILENO;
 use operations::Tables;

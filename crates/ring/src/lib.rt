@@ -1,5 +1,7 @@
 // A ring of d places: where it is written next, where it is read next, and how many of its places are taken. What stands in the places is
 // kept elsewhere, and who waits for it is no part of it.
+#![tactic(auto)]
+
 pub mod inner;
 
 ghost use Rattle.std.specs.Prelude.{◌≡◌};

@@ -1,5 +1,7 @@
 // Calls in a loop, for measuring: the first byte of the input picks the loop, and the sum of what came out is printed, so that no
 // loop can be left out. `bench/calls` times it beside the Rust's.
+#![tactic(auto)]
+
 use cap::CapId;
 use ipc_rules::answers::RecvAnswer;
 use ipc_rules::state::{Payload, Table};

@@ -1,4 +1,6 @@
 // What a line of the log shows of an answer: its number, 0 or the refusal's, and its values. Each answer makes its own, beside its number.
+#![tactic(auto)]
+
 ghost use Rattle.std.specs.Prelude.{◌≡◌, [], ◌∷◌};
 ghost use Rattle.shown.specs.Shown.{shown, pushed};
 

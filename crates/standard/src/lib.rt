@@ -1,5 +1,7 @@
 // Standard input read whole, and what a program tells on standard error. A program has no exit status, so a read or a write that fails is told
 // there, and what was to follow is not printed.
+#![tactic(auto)]
+
 ghost use Rattle.std.specs.Prelude.{◌≡◌, length};
 ghost use Rattle.io.specs.Counts.{IsPrefixLen};
 

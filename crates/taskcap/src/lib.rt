@@ -1,4 +1,6 @@
 // Task ids: 32 entries over task numbers, freed when the task ends. Ported from taskcap.rs.
+#![tactic(auto)]
+
 ghost use Rattle.std.specs.Prelude.{◌≡◌};
 ghost use Rattle.laws.specs.Refusals.{none};
 ghost use Rattle.shown.specs.Shown.{shown};
