@@ -13,7 +13,7 @@ pub const MAX_IRQ_CAPS: usize = 8;
 // Index band: an id's index is `INDEX_BASE` + entry, so that it never meets an endpoint's.
 pub const INDEX_BASE: u16 = 32768;
 
-#[derive(Drop)]
+#[derive(Clone, Copy)]
 pub struct Table {
     pub entries: [Entry; MAX_IRQ_CAPS],
 }

@@ -17,7 +17,7 @@ pub const MAX_TASK_CAPS: usize = 32;
 // Index band: an id's index is `INDEX_BASE` + entry. It shares no bit with the IRQ band, so no id is read by both tables.
 pub const INDEX_BASE: u16 = 16384;
 
-#[derive(Drop)]
+#[derive(Clone, Copy)]
 pub struct Table {
     pub entries: [Entry; MAX_TASK_CAPS],
 }
