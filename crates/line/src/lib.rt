@@ -44,7 +44,7 @@ fn put(free: &mut [u8], text: &[u8]) -> Written
     if free.len() < text.len() {
         return Written::NoRoom;
     }
-    bytes::copy(text, free);
+    text::copy(text, free);
     Written::Upto(text.len())
 }
 

@@ -1,6 +1,14 @@
 // A line's text, piece after piece, in a buffer with room for it. Each function answers the place past what it wrote.
-ghost use Rattle.std.specs.Prelude.{◌≡◌, ◌∷◌, ◌++◌, ◌+◌, ◌*◌, ◌≤◌, length, take};
+ghost use Rattle.std.specs.Prelude.{◌≡◌, ◌∷◌, ◌++◌, ◌+◌, ◌*◌, ◌≤◌, length, drop, take};
 ghost use Rattle.line.specs.Line.{decimal_in, decimal_of, spaced_of, closed_by, text_of, line_of, most_of};
+
+// The text at the start of the buffer, which stays as it was behind it.
+pub fn copy(text: &[u8], out: &mut [u8])
+    requires { length text.now ≤ length out.old }
+    ensures { out.new ≡ text.now ++ drop (length text.now) out.old }
+{
+    out[..text.len()].copy_from_slice(text);
+}
 
 // The decimal digits of `n`, of which there are at most `places`.
 fn digits(out: &mut [u8], at: usize, n: u64, places: usize) -> usize
@@ -91,6 +99,6 @@ pub fn said(out: &mut [u8], word: [u8; 3], values: [u64; 12], count: usize) -> u
     ensures within { result ≤ 315 }
     ensures text { take result out.new ≡ text_of word (take count values) }
 {
-    bytes::copy(&word, out);
+    copy(&word, out);
     closed(out, 3, values, count)
 }
