@@ -96,8 +96,8 @@ pieces o₁ o₂ o₃ o₄ vs a b c d n op answer e₁ e₂ e₃ e₄ =
     simp append_assoc
 
 -- a word of three letters, copied to the front
-pub worded : (out o₁ o₂ w vs : List ℕ) (r : ℕ) → length w ≡ 3 → o₁ ≡ take (length w) w ++ drop (length w) out →
+pub worded : (out o₁ o₂ w vs : List ℕ) (r : ℕ) → length w ≡ 3 → o₁ ≡ w ++ drop (length w) out →
     take r o₂ ≡ take 3 o₁ ++ closed_by vs → take r o₂ ≡ text_of w vs
 worded out o₁ o₂ w vs r l f e =
     e ∙ ap (λ (t : List ℕ). t ++ closed_by vs)
-    (ap (λ (o : List ℕ). take 3 o) (f ∙ ap (λ (t : List ℕ). t ++ drop (length w) out) (take-length w)) ∙ take_at w (drop (length w) out) 3 l)
+    (ap (λ (o : List ℕ). take 3 o) f ∙ take_at w (drop (length w) out) 3 l)

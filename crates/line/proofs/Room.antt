@@ -65,8 +65,8 @@ module _ (out : List ℕ) (at : ℕ) (text : List ℕ) where
 
 -- a text copied to the start of a buffer
 pub copied : (out text : List ℕ) → length text ≤ length out →
-    (Upto (length text) ≡ put_of out 0 text) × (take (length text) text ++ drop (length text) out ≡ written out 0 text)
-copied out text h = let r = has_room out 0 text (omega arith) in rw take-length (simp zero-add at r)
+    (Upto (length text) ≡ put_of out 0 text) × (text ++ drop (length text) out ≡ written out 0 text)
+copied out text h = let r = has_room out 0 text (omega arith) in simp zero-add at r
 
 -- ---- the free tail of a buffer, lent to a writer
 module _ (out : List ℕ) (at : ℕ) (text : List ℕ) (h : at ≤ length out) where

@@ -7,11 +7,10 @@ use Rattle.line.proofs.Room.{from_buffer}
 use Rattle.line.proofs.write_line.Goals as goal
 
 pub slice_bounds-put-end : goal.slice_bounds-put-end
-slice_bounds-put-end c = let t = c.line-n in
-    sym (length-take-le t.result t.new.0 (omega (arith, t.auto.0, t.ensures.0)))
+slice_bounds-put-end c = sym (length-take-le c.line-n.result c.line-n.new.out (omega (arith, c.line-n.auto.out, c.line-n.ensures.within)))
 
-pub returns : goal.returns
-returns c = let a = c.args in
-    let t = c.line-n in
-    let p = c.put in
-    from_buffer a.free.now p.new.0 0 _ (take t.result t.new.0) p.result t.ensures.1 p.ensures.0 p.ensures.1
+pub returns-clause-answer : goal.returns-clause-answer
+returns-clause-answer c = (from_buffer c.args.free.now c.put.new.free 0 _ (take c.line-n.result c.line-n.new.out) c.put.result c.line-n.ensures.text c.put.ensures.answer c.put.ensures.buffer).0
+
+pub returns-clause-buffer : goal.returns-clause-buffer
+returns-clause-buffer c = (from_buffer c.args.free.now c.put.new.free 0 _ (take c.line-n.result c.line-n.new.out) c.put.result c.line-n.ensures.text c.put.ensures.answer c.put.ensures.buffer).1

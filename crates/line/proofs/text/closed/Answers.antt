@@ -9,13 +9,10 @@ use Rattle.line.proofs.Pieces.{most_few, newline}
 use borrow.Author.Rules.{rules}
 use Rattle.line.proofs.text.closed.Goals as goal
 
-pub most-requires : goal.most-requires
-most-requires c = search rules
-
 pub fields-last-requires : goal.fields-last-requires
 fields-last-requires c =
     let few : c.most.result ≤ 12 = rw c.most.ensures (most_few _) in
-    let m : c.most.result ≤ 12 = few in (m, omega arith)
+    let m : c.most.result ≤ 12 = few in record { count_bound = m; count_in_bounds = omega arith }
 
 pub bounds-out-last : goal.bounds-out-last
 bounds-out-last c =
@@ -27,16 +24,7 @@ overflow_add-result c =
     let few : c.most.result ≤ 12 = rw c.most.ensures (most_few _) in
     omega (arith, few)
 
-pub shape_of-out : goal.shape_of-out
-shape_of-out c = search rules
-
 pub returns : goal.returns
 returns c =
     let few : c.most.result ≤ 12 = rw c.most.ensures (most_few _) in
-    let a = c.args in
-    let g = c.fields-last in
-    let m = c.most in (
-      omega (arith, few),
-      newline g.new.0 a.out.now a.values a.at g.result a.count (omega (arith, few)) (search rules)
-          (g.ensures.1 ∙ ap (λ (k : ℕ). take a.at a.out.now ++ spaced_of (take k a.values)) m.ensures),
-    )
+    record { within = omega (arith, few); text = newline c.fields-last.new.out c.args.out.now c.args.values c.args.at c.fields-last.result c.args.count (omega (arith, few)) (search rules) (c.fields-last.ensures.text ∙ ap (λ (k : ℕ). take c.args.at c.args.out.now ++ spaced_of (take k c.args.values)) c.most.ensures) }

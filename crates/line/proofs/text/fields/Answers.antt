@@ -11,16 +11,13 @@ pub loop-i-init : goal.loop-i-init
 loop-i-init c = (omega arith, omega arith, refl, no_fields c.args.out.now c.args.values c.args.at)
 
 pub loop-i-preserved : goal.loop-i-preserved
-loop-i-preserved c = let h = c in
-    let a = h.before.before.args in
-    let g = c.spaced-end in (
-      search rules,
-      search rules,
-      search rules,
-      field h.loop.out g.new.0 a.out.now a.t3 a.at h.loop.end g.result h.loop.i (search rules) h.loop.invariant.3 g.ensures.1,
-    )
+loop-i-preserved c = (
+  search rules,
+  search rules,
+  search rules,
+  field c.loop-i.out c.spaced-end.new.out c.args.out.now c.args.values c.args.at c.loop-i.end c.spaced-end.result c.loop-i.i (search rules) c.loop-i.invariant.3 c.spaced-end.ensures.text,
+)
 
 pub returns : goal.returns
-returns c = let h = c in
-    let e : h.loop.i ≡ h.before.before.args.count = omega arith in
-    (search rules, rw (← e) h.loop.invariant.3)
+returns c = let e : c.loop-i.i ≡ c.args.count = omega arith in
+    record { within = search rules; text = rw (← e) c.loop-i.invariant.3 }

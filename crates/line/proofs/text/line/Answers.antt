@@ -4,12 +4,4 @@ use borrow.Author.Rules.{rules}
 use Rattle.line.proofs.text.line.Goals as goal
 
 pub returns : goal.returns
-returns c = let a = c.args in
-    let n₁ = c.digits-a in
-    let n₂ = c.spaced-b in
-    let n₃ = c.spaced-c in
-    let n₄ = c.closed in (
-      search rules,
-      pieces n₁.new.0 n₂.new.0 n₃.new.0 n₄.new.0 _ n₁.result n₂.result n₃.result n₄.result a.number a.op a.answer
-          n₁.ensures.1 n₂.ensures.1 n₃.ensures.1 n₄.ensures.1,
-    )
+returns c = record { within = search rules; text = pieces c.digits-a.new.out c.spaced-b.new.out c.spaced-c.new.out c.closed.new.out _ c.digits-a.result c.spaced-b.result c.spaced-c.result c.closed.result c.args.number c.args.op c.args.answer c.digits-a.ensures.text c.spaced-b.ensures.text c.spaced-c.ensures.text c.closed.ensures.text }

@@ -4,7 +4,4 @@ use borrow.Author.Rules.{rules}
 use Rattle.line.proofs.text.said.Goals as goal
 
 pub returns : goal.returns
-returns c = let a = c.args in
-    let y = c.copy in
-    let g = c.closed in
-    (search rules, worded a.out.now y.new.1.0 g.new.0 a.t2 _ g.result (search rules) y.ensures.1 g.ensures.1)
+returns c = record { within = search rules; text = worded c.args.out.now c.copy.new.out c.closed.new.out c.args.word _ c.closed.result (search rules) c.copy.ensures c.closed.ensures.text }

@@ -10,9 +10,7 @@ pub digits-requires : goal.digits-requires
 digits-requires c = simp length-set (omega arith)
 
 pub shape_of-out : goal.shape_of-out
-shape_of-out c = c.digits.auto.0 ∙ simp length-set
+shape_of-out c = c.digits.auto.out ∙ simp length-set
 
 pub returns : goal.returns
-returns c = let a = c.args in
-    let g = c.digits in
-    (search rules, space a.out.now g.new.0 a.at g.result a.n (search rules) g.ensures.1)
+returns c = record { within = search rules; text = space c.args.out.now c.digits.new.out c.args.at c.digits.result c.args.n (search rules) c.digits.ensures.text }
