@@ -47,12 +47,12 @@ fn places_ok(t: Table) -> bool
 }
 
 // For each mailbox the place of an endpoint, or 64.
-#[derive(Drop)]
+#[derive(Clone, Copy)]
 struct Last {
     at: [u8; 32],
 }
 
-#[derive(Drop)]
+#[derive(Clone, Copy)]
 struct Ends {
     send: Last,
     recv: Last,

@@ -26,7 +26,7 @@ unfolding sound_test
 refused t h = rw h
 
 in_range_lem : (c : tie.Else1) → in_range c.before.before.before.args.t.sizes ≡ true
-in_range_lem c = sym c.before.in_range_lem.ensures ∙ not-false _ c.if1.false
+in_range_lem c = sym c.before.in_range.ensures ∙ not-false _ c.if1.false
 
 shallow : (c : tie.Else1) → c.before.before.before.args.t.sizes.depth ≤ 8
 shallow c = (in_range_of c.before.before.before.args.t.sizes (in_range_lem c)).depth
@@ -35,7 +35,7 @@ in-range-requires : tie.Need-in-range-requires
 in-range-requires c κs = search rules
 
 returns : tie.Need-returns
-returns c = told _ (shape c.before.before.before) (refused _ (sym c.before.in_range_lem.ensures ∙ not-true _ c.if1.true))
+returns c = told _ (shape c.before.before.before) (refused _ (sym c.before.in_range.ensures ∙ not-true _ c.if1.true))
 
 last-ends-requires : tie.Need-last-ends-requires
 last-ends-requires c κs = search rules

@@ -55,7 +55,7 @@ add-cleared c = omega (arith, swept_few _ _ _ _ c.before.before.before.before.lo
 loop-again : tie.Need-loop-preserved invariant-loop decreases-loop
 loop-again c =
     let so_far = c.before.before.before.before.loop.invariant.1 in
-    let asked = c.before.waits_on_lem.ensures in
+    let asked = c.before.waits_on.ensures in
     (search rules, ⊎_elim (λ w. turn_yes _ _ _ so_far _ (sym asked ∙ w.0.taken) w.1 w.2) (λ w. turn_no _ _ _ so_far _ (sym asked ∙ w.0.left) w.1 w.2) c.if1.branch)
 
 returns : tie.Need-returns invariant-loop decreases-loop

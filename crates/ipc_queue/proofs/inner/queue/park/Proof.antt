@@ -23,10 +23,10 @@ inside c = opens_within _ _ _ _ c.before.before.before.before.before.before.requ
 
 -- what `other_waits` said of the mailbox's waiter
 busy : (c : tie.Then3) → other_waits (mailbox_at c.before.before.before.before.before.before.before.before.before.before.before.before.before.before.args.t1 c.before.before.before.before.before.before.before.before.before.k.given.0.0).waiter c.before.before.before.before.before.before.before.before.before.before.before.before.before.before.args.me ≡ true
-busy c = sym c.before.other_waits_lem.ensures ∙ c.if3.true
+busy c = sym c.before.other_waits.ensures ∙ c.if3.true
 
 free : (c : tie.Else3) → other_waits (mailbox_at c.before.before.before.before.before.before.before.before.before.before.before.before.before.before.args.t1 c.before.before.before.before.before.before.before.before.before.k.given.0.0).waiter c.before.before.before.before.before.before.before.before.before.before.before.before.before.before.args.me ≡ false
-free c = sym c.before.other_waits_lem.ensures ∙ c.if3.false
+free c = sym c.before.other_waits.ensures ∙ c.if3.false
 
 returns : tie.Need-returns
 unfolding park_of
