@@ -1,0 +1,41 @@
+-- `ipc_sound::sound` computes `sound_test`, and what passes it is sound. Assumes nothing.
+use mathlib.Core.Path.{◌≡◌, sym, ◌∙◌}
+use mathlib.Core.Bool.{Bool, true, false}
+use Prim.Native.Nat.{◌≤◌}
+use borrow.Author.Tests.{not-true, not-false}
+use Rattle.laws.proofs.Lists.{unmapped}
+use Rattle.ipc_rules.specs.State.{Shape}
+use Rattle.ipc_rules.specs.Make.{in_range}
+use Rattle.ipc_rules.specs.Sound.{Sound}
+use Rattle.ipc_sound.specs.SoundTest.{sound_test}
+use Rattle.ipc_rules.specs.declared.state.Table.{Table}
+use Rattle.ipc_rules.proofs.Fresh.{in_range_of}
+use Rattle.ipc_sound.proofs.Decide.{sound_of}
+use borrow.Author.Rules.{rules}
+use Rattle.ipc_sound.proofs.sound.Goals as goal
+
+told : (t : Table) {q : Bool} → Shape t → q ≡ sound_test t → (q ≡ sound_test t) × (q ≡ true → Sound t)
+told t s e = (e, λ y. sound_of t s (sym e ∙ y))
+
+refused : (t : Table) → in_range t.sizes ≡ false → false ≡ sound_test t
+unfolding sound_test
+refused t h = rw h
+
+pub returns-then-not-in_range : goal.returns-then-not-in_range
+returns-then-not-in_range c =
+    let shape : Shape c.args.t = record { endpoints = search (rules, unmapped); mailboxes = search (rules, unmapped); messages = search (rules, unmapped) } in
+    told _ shape (refused _ (sym c.in_range.ensures ∙ c.if-not-in_range.true))
+
+pub mailboxes_ok-requires : goal.mailboxes_ok-requires
+mailboxes_ok-requires c =
+    let in_range_lem : in_range c.args.t.sizes ≡ true = sym c.in_range.ensures ∙ c.if-not-in_range.false in
+    let shallow : c.args.t.sizes.depth ≤ 8 = (in_range_of c.args.t.sizes in_range_lem).depth in
+    (c.last_ends-l.ensures.0, c.last_ends-l.ensures.1, shallow)
+
+pub returns : goal.returns
+unfolding sound_test
+returns c =
+    let shape : Shape c.args.t = record { endpoints = search (rules, unmapped); mailboxes = search (rules, unmapped); messages = search (rules, unmapped) } in
+    let in_range_lem : in_range c.args.t.sizes ≡ true = sym c.in_range.ensures ∙ c.if-not-in_range.false in
+    told _ shape
+    (simp (c.places_ok.ensures, c.mailboxes_ok.ensures, c.endpoints_ok.ensures, in_range_lem))
