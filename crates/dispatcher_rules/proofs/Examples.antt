@@ -27,7 +27,7 @@ use Rattle.ipc_rules.specs.declared.state.Table.{Table as Channels}
 use Rattle.ipc_rules.specs.declared.answers.HoldersAnswer.TheVariants.{Holders}
 use Rattle.ipc_rules.specs.declared.answers.ParkAnswer.TheVariants.{Parked}
 use Rattle.joined.specs.Steps as joins
-use Rattle.dispatcher_rules.specs.State.{no_variant_lem, no_ends, fresh_dispatcher, open_job}
+use Rattle.dispatcher_rules.specs.State.{no_variant, no_ends, fresh_dispatcher, open_job}
 use Rattle.dispatcher_rules.specs.Bound as bounds
 use Rattle.dispatcher_rules.specs.Make.{make_of}
 use Rattle.dispatcher_rules.specs.Open.{creates, gives_both, open_job_of}
@@ -56,7 +56,7 @@ abbrev to : Tag → ℕ → Variant
 to tag row = record { tag = tag; row = row }
 
 abbrev with : Variant → Variant → List Variant
-with a b = a ∷ b ∷ replicate 14 no_variant_lem
+with a b = a ∷ b ∷ replicate 14 no_variant
 
 abbrev variants : List Variant
 variants = with (to pt 1) (to fr 2)
@@ -108,7 +108,7 @@ taken = record { rows = record { slots = replicate 4 (slots.holding (id_of 9 9))
 abbrev refuses : Dispatcher → Sizes → Tag → ℕ → OpenAnswer → Type 0
 refuses d z tag x a = (open_job_of d taken (fresh_of z) tag x).answer ≡ a
 
-pub no_variant_lem : refuses full (sizes_of 0 0 1) no_variant_lem.tag 54 NoVariant
+pub no_variant_lem : refuses full (sizes_of 0 0 1) no_variant.tag 54 NoVariant
 unfolding open_job_of places.found places.lowest_free places.lowest picks.pick
 no_variant_lem = refl
 

@@ -11,14 +11,14 @@ abbrev pub byte_at : Tag → ℕ → ℕ
 byte_at x k = get_or x.bytes k 0
 
 -- two tags are one where all five bytes agree
-abbrev pub same_tag_lem : Tag → Tag → Bool
-same_tag_lem x y =
+abbrev pub same_tag : Tag → Tag → Bool
+same_tag x y =
     eqb (byte_at x 0) (byte_at y 0) && eqb (byte_at x 1) (byte_at y 1) && eqb (byte_at x 2) (byte_at y 2) && eqb (byte_at x 3) (byte_at y 3)
     && eqb (byte_at x 4) (byte_at y 4)
 
 -- variants i and j have one tag
 abbrev pub alike : List Variant → ℕ → ℕ → Bool
-alike vs i j = same_tag_lem (variant_in vs i).tag (variant_in vs j).tag
+alike vs i j = same_tag (variant_in vs i).tag (variant_in vs j).tag
 
 -- n variants: at most 16, each to a row that is there, no two of one tag
 pub record Bound (n : ℕ) (vs : List Variant) : Type 0 where

@@ -1,7 +1,7 @@
 -- Request No. 5, making: a dispatcher with its variants bound and no place open.
 use Rattle.std.specs.Prelude.{ℕ, List, replicate}
 use Rattle.laws.specs.Pick.{pick}
-use Rattle.dispatcher_rules.specs.State.{no_variant_lem, fresh_dispatcher}
+use Rattle.dispatcher_rules.specs.State.{no_variant, fresh_dispatcher}
 use Rattle.dispatcher_rules.specs.Bound.{bound_test}
 use Rattle.dispatcher_rules.specs.declared.state.Variant.{Variant}
 use Rattle.dispatcher_rules.specs.declared.answers.Making.{Making}
@@ -12,4 +12,4 @@ unfoldable pub make_of : ℕ → List Variant → Making
 make_of n vs =
     pick (bound_test n vs)
     (record { answer = Made; dispatcher = fresh_dispatcher n vs })
-    (record { answer = BadVariants; dispatcher = fresh_dispatcher 0 (replicate 16 no_variant_lem) })
+    (record { answer = BadVariants; dispatcher = fresh_dispatcher 0 (replicate 16 no_variant) })

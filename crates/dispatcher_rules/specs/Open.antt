@@ -12,7 +12,7 @@ use Rattle.ipc_rules.specs.declared.answers.CreateAnswer as create
 use Rattle.joined.specs.Steps.{give_of}
 use Rattle.joined.specs.declared.answers.Giving.{Giving}
 use Rattle.dispatcher_rules.specs.State.{variant_in, row_of, job_at, open_job, with_job}
-use Rattle.dispatcher_rules.specs.Bound.{same_tag_lem}
+use Rattle.dispatcher_rules.specs.Bound.{same_tag}
 use Rattle.dispatcher_rules.specs.declared.state.Tag.{Tag}
 use Rattle.dispatcher_rules.specs.declared.state.Dispatcher.{Dispatcher}
 use Rattle.dispatcher_rules.specs.declared.answers.JobOpening.{JobOpening}
@@ -20,7 +20,7 @@ use Rattle.dispatcher_rules.specs.declared.answers.OpenAnswer as opening
 
 -- the variant that has the tag: the search passes over those that have another
 abbrev pub variant_of : Dispatcher → Tag → Found
-variant_of d tag = lowest_free (λ i. not (same_tag_lem (variant_in d.variants i).tag tag)) 0 d.count
+variant_of d tag = lowest_free (λ i. not (same_tag (variant_in d.variants i).tag tag)) 0 d.count
 
 -- the lowest place that is not open
 abbrev pub free_place : Dispatcher → Found

@@ -10,8 +10,8 @@ use Rattle.dispatcher_rules.specs.declared.state.Dispatcher.{Dispatcher}
 abbrev pub no_tag : Tag
 no_tag = record { bytes = 0 ∷ 0 ∷ 0 ∷ 0 ∷ 0 ∷ [] }
 
-abbrev pub no_variant_lem : Variant
-no_variant_lem = record { tag = no_tag; row = 0 }
+abbrev pub no_variant : Variant
+no_variant = record { tag = no_tag; row = 0 }
 
 -- two ids that open nothing in a sound table: no generation is 0
 abbrev pub no_ends : Channel

@@ -91,7 +91,7 @@ pub struct Counters {
 }
 
 // Place p of mailbox k's ring is `messages[k * MAX_DEPTH + p]`.
-#[derive(Drop)]
+#[derive(Clone, Copy)]
 pub struct Table {
     pub sizes: Sizes,
     pub endpoints: [Endpoint; 64],

@@ -11,7 +11,7 @@ use Rattle.laws.proofs.Bools.{same?, below?, and_four}
 use Rattle.laws.proofs.Cases.{not_both}
 use Rattle.laws.proofs.Every.{and_left, and_right}
 use Rattle.dispatcher_rules.specs.State.{variant_in, row_of}
-use Rattle.dispatcher_rules.specs.Bound.{byte_at, same_tag_lem}
+use Rattle.dispatcher_rules.specs.Bound.{byte_at, same_tag}
 use Rattle.dispatcher_rules.specs.Slots.{slot_send_of, slot_recv_of, slot_park_of}
 use Rattle.dispatcher_rules.specs.declared.state.Desk.{Desk}
 use Rattle.dispatcher_rules.specs.declared.state.Dispatcher.{Dispatcher}
@@ -71,7 +71,7 @@ bound_first w (c ∷ cs) tag r b = bound_back w (after w c) (bindings_stay w c) 
 same_byte : (x y z : ℕ) → eqb x z ≡ true → eqb y z ≡ true → eqb x y ≡ true
 same_byte x y z a b = eq-eqb x y (eqb-true x z a ∙ sym (eqb-true y z b))
 
-same_tag_lem : (x y z : Tag) → same_tag_lem x z ≡ true → same_tag_lem y z ≡ true → same_tag_lem x y ≡ true
+same_tag_lem : (x y z : Tag) → same_tag x z ≡ true → same_tag y z ≡ true → same_tag x y ≡ true
 same_tag_lem x y z a b =
     let p = and_five _ _ _ _ _ a in
     let q = and_five _ _ _ _ _ b in

@@ -25,7 +25,7 @@ use Rattle.ipc_rules.specs.declared.state.TaskId.{TaskId}
 use Rattle.ipc_rules.specs.declared.answers.ParkAnswer.TheVariants.{Parked}
 use Rattle.joined.specs.Steps.{give_of, installs}
 use Rattle.history.specs.Traffic.{by_receive}
-use Rattle.dispatcher_rules.specs.State.{no_variant_lem}
+use Rattle.dispatcher_rules.specs.State.{no_variant}
 use Rattle.dispatcher_rules.specs.Bound.{bound_test}
 use Rattle.dispatcher_rules.specs.Make.{make_of}
 use Rattle.dispatcher_rules.specs.Open.{creates, gives_both, open_job_of}
@@ -57,7 +57,7 @@ pt_BR = record { bytes = 112 ∷ 116 ∷ 45 ∷ 66 ∷ 82 ∷ [] }
 
 -- the one bound to row 3, the other to row 4
 abbrev variants : List Variant
-variants = record { tag = pt_PT; row = 3 } ∷ record { tag = pt_BR; row = 4 } ∷ replicate 14 no_variant_lem
+variants = record { tag = pt_PT; row = 3 } ∷ record { tag = pt_BR; row = 4 } ∷ replicate 14 no_variant
 
 abbrev our_parts : Payload
 our_parts = record { tag = 7; a = 100; b = 200 }

@@ -29,7 +29,7 @@ use Rattle.ipc_rules.proofs.KeepsCalls.{registered_kept}
 use Rattle.ipc_rules.proofs.KeepsCreate.{create_kept}
 use Rattle.joined.specs.declared.answers.GiveAnswer.TheVariants.{Given}
 use Rattle.dispatcher_rules.specs.State.{variant_in, row_of, job_at, open_job, with_job}
-use Rattle.dispatcher_rules.specs.Bound.{same_tag_lem}
+use Rattle.dispatcher_rules.specs.Bound.{same_tag}
 use Rattle.dispatcher_rules.specs.Open.{variant_of, free_place, send_given, both_given, open_job_of}
 use Rattle.dispatcher_rules.specs.declared.state.Desk.{Desk}
 use Rattle.dispatcher_rules.specs.declared.state.Job.{Job}
@@ -107,7 +107,7 @@ module _ (w : Desk) (κ : Kept w) (tag : Tag) (x s v q p k : ℕ) (ends : Channe
 
   bound_to : BoundTo d.dispatcher tag (row_of w.dispatcher v)
   bound_to =
-      let f = lowest_at (λ i. not (same_tag_lem (variant_in w.dispatcher.variants i).tag tag)) 0 w.dispatcher.count v variant in
+      let f = lowest_at (λ i. not (same_tag (variant_in w.dispatcher.variants i).tag tag)) 0 w.dispatcher.count v variant in
       record { variant = v; among = f.below; tagged = not-false _ f.free; row = refl }
 
   -- ---- an id that stood is none of the new ones: it opened something

@@ -10,7 +10,7 @@ use Rattle.ipc_rules.specs.State.{stamped}
 use Rattle.ipc_rules.specs.declared.state.Message.{Message}
 use Rattle.history.specs.Traffic.{if_sent, by_receive, by_park}
 use Rattle.dispatcher_rules.specs.State.{job_at, variant_in, row_of, open_job}
-use Rattle.dispatcher_rules.specs.Bound.{same_tag_lem}
+use Rattle.dispatcher_rules.specs.Bound.{same_tag}
 use Rattle.dispatcher_rules.specs.declared.state.Desk.{Desk}
 use Rattle.dispatcher_rules.specs.declared.state.Dispatcher.{Dispatcher}
 use Rattle.dispatcher_rules.specs.declared.state.Job.{Job}
@@ -33,7 +33,7 @@ OpenIn w p = (job_in w p).«open» ≡ true
 pub record BoundTo (d : Dispatcher) (tag : Tag) (r : ℕ) : Type 0 where
   pub variant : ℕ
   pub among : variant < d.count
-  pub tagged : same_tag_lem (variant_in d.variants variant).tag tag ≡ true
+  pub tagged : same_tag (variant_in d.variants variant).tag tag ≡ true
   pub row : row_of d variant ≡ r
 
 -- slot s of row r holds the id

@@ -11,7 +11,7 @@ use Rattle.ipc_rules.specs.State.{sizes_of}
 use Rattle.ipc_rules.specs.declared.state.Sizes.{Sizes}
 use Rattle.logread.specs.Little.{byte_at}
 use Rattle.dispatcher_rules.specs.Answers.{open_number, open_values, close_number, close_values, slot_send_number, slot_send_values, slot_recv_number, slot_recv_values, slot_park_number, slot_park_values}
-use Rattle.dispatcher_rules.specs.State.{no_variant_lem, fresh_dispatcher}
+use Rattle.dispatcher_rules.specs.State.{no_variant, fresh_dispatcher}
 use Rattle.dispatcher_rules.specs.Bound.{bound_test}
 use Rattle.dispatcher_rules.specs.Open.{open_job_of}
 use Rattle.dispatcher_rules.specs.Close.{close_job_of}
@@ -33,7 +33,7 @@ fresh_desk z n vs = desk_of (fresh_dispatcher n vs) fresh_table (fresh_of z)
 
 -- where a script starts: sizes 32, 64, 8, and nothing bound
 abbrev pub start_desk : Desk
-start_desk = fresh_desk (sizes_of 32 64 8) 0 (replicate 16 no_variant_lem)
+start_desk = fresh_desk (sizes_of 32 64 8) 0 (replicate 16 no_variant)
 
 -- ---- what a call's answer comes to, with all that it gives back
 abbrev pub after_open : JobOpening → Done

@@ -90,8 +90,8 @@ abbrev pub too_long : ℕ
 too_long = 28
 
 -- the dispatcher's
-abbrev pub no_variant_lem : ℕ
-no_variant_lem = 29
+abbrev pub no_variant : ℕ
+no_variant = 29
 
 abbrev pub jobs_full : ℕ
 jobs_full = 30

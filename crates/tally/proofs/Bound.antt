@@ -24,7 +24,7 @@ use Rattle.ipc_rules.specs.declared.opening.Opening.TheVariants.{Opens, Shut}
 use Rattle.ipc_rules.specs.declared.state.Channel.{Channel}
 use Rattle.ipc_rules.specs.declared.state.Table.{Table as Channels}
 use Rattle.ipc_rules.proofs.AfterCreate.{Creates}
-use Rattle.dispatcher_rules.specs.State.{no_variant_lem}
+use Rattle.dispatcher_rules.specs.State.{no_variant}
 use Rattle.dispatcher_rules.specs.Make.{make_of}
 use Rattle.joined.specs.Steps.{give_of, installs}
 use Rattle.history.specs.Calls as calls
@@ -39,7 +39,7 @@ use Rattle.tally.specs.Needed.{first, BoundNeeded}
 
 -- the books of a run that has touched nothing but channels
 abbrev pub books_at : Channels → Rows → List Channel → Books
-books_at t rows l = record { channels = t; rows = rows; dispatcher = (make_of 0 (replicate 16 no_variant_lem)).dispatcher; created = l }
+books_at t rows l = record { channels = t; rows = rows; dispatcher = (make_of 0 (replicate 16 no_variant)).dispatcher; created = l }
 
 -- the two ids of the next channel of an idle table
 abbrev pub next_ids : Channels → Channel

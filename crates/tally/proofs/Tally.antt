@@ -49,7 +49,7 @@ use Rattle.ipc_rules.proofs.Fresh.{in_range_of, fresh_sound}
 use Rattle.ipc_rules.specs.Create.{create_of}
 use Rattle.ipc_rules.specs.declared.answers.CreateAnswer.{CreateAnswer}
 use Rattle.ipc_rules.specs.declared.answers.CreateAnswer as toCreate
-use Rattle.dispatcher_rules.specs.State.{job_at, no_variant_lem}
+use Rattle.dispatcher_rules.specs.State.{job_at, no_variant}
 use Rattle.dispatcher_rules.specs.Bound.{Bound}
 use Rattle.dispatcher_rules.specs.Make.{make_of}
 use Rattle.dispatcher_rules.specs.Open.{open_job_of}
@@ -190,7 +190,7 @@ begins z i =
         next = λ _. refl;
         shut = λ ids m. none_made refl m;
       },
-      record { bound = bound 0 (replicate 16 no_variant_lem); full = sixteen 0 (replicate 16 no_variant_lem); made = λ p o. absurd (not_both _ o (made_closed 0 (replicate 16 no_variant_lem) p)) },
+      record { bound = bound 0 (replicate 16 no_variant); full = sixteen 0 (replicate 16 no_variant); made = λ p o. absurd (not_both _ o (made_closed 0 (replicate 16 no_variant) p)) },
     )
 
 -- no step takes a creation back

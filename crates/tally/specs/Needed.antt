@@ -16,7 +16,7 @@ use Rattle.ipc_rules.specs.Views.{hold_count}
 use Rattle.ipc_rules.specs.declared.opening.Opening.TheVariants.{Opens}
 use Rattle.ipc_rules.specs.declared.state.Sizes.{Sizes}
 use Rattle.ipc_rules.specs.declared.state.Table.{Table as Channels}
-use Rattle.dispatcher_rules.specs.State.{no_variant_lem}
+use Rattle.dispatcher_rules.specs.State.{no_variant}
 use Rattle.dispatcher_rules.specs.declared.state.Tag.{Tag}
 use Rattle.dispatcher_rules.specs.declared.state.Variant.{Variant}
 use Rattle.history.specs.Edges.{Edge, edge, Agree}
@@ -54,7 +54,7 @@ abbrev pub tag : Tag
 tag = record { bytes = 112 ∷ 116 ∷ 45 ∷ 80 ∷ 84 ∷ [] }
 
 abbrev pub one_variant : List Variant
-one_variant = record { tag = tag; row = 3 } ∷ replicate 15 no_variant_lem
+one_variant = record { tag = tag; row = 3 } ∷ replicate 15 no_variant
 
 abbrev pub one_created : Books
 one_created = played (create false ∷ [])

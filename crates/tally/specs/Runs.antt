@@ -24,7 +24,7 @@ use Rattle.ipc_rules.specs.declared.answers.CreateAnswer as toCreate
 use Rattle.joined.specs.Steps.{spawn_of, leave_of, give_of}
 use Rattle.joined.specs.declared.answers.SpawnAnswer.TheVariants.{Spawned}
 use Rattle.joined.specs.declared.answers.GiveAnswer.TheVariants.{Given}
-use Rattle.dispatcher_rules.specs.State.{no_variant_lem}
+use Rattle.dispatcher_rules.specs.State.{no_variant}
 use Rattle.dispatcher_rules.specs.Make.{make_of}
 use Rattle.dispatcher_rules.specs.Open.{open_job_of}
 use Rattle.dispatcher_rules.specs.Close.{close_job_of}
@@ -156,7 +156,7 @@ PutsCreated b (park_by r s task) = Unit
 -- ---- runs
 -- fresh tables, and a dispatcher with nothing bound, for which no tag opens until one is made
 abbrev pub start : Sizes → Books
-start z = record { channels = fresh_of z; rows = fresh_table; dispatcher = (make_of 0 (replicate 16 no_variant_lem)).dispatcher; created = [] }
+start z = record { channels = fresh_of z; rows = fresh_table; dispatcher = (make_of 0 (replicate 16 no_variant)).dispatcher; created = [] }
 
 -- from fresh tables of any sizes that a table can be made with; sizes that are refused give those of 0, 0 and 1
 pub data Reached : Books → Type 0 where

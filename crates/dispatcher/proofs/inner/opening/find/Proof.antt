@@ -8,13 +8,13 @@ use Rattle.laws.specs.Search.{lowest_free}
 use Rattle.laws.proofs.Search.{search_ends, search_finds, search_goes_on}
 use Rattle.laws.proofs.Together.{◌·◌, ◌·⁵◌}
 use Rattle.dispatcher_rules.specs.State.{variant_in}
-use Rattle.dispatcher_rules.specs.Bound.{same_tag_lem}
+use Rattle.dispatcher_rules.specs.Bound.{same_tag}
 use Rattle.dispatcher_rules.specs.Open.{variant_of}
 use Rattle.dispatcher.proofs.inner.opening.find.Statement.{statement}
 use Rattle.dispatcher.proofs.inner.opening.find.Tie as tie
 
 abbrev invariant-loop : tie.invariant-loop
-invariant-loop tag d i₀ i = lowest_free (λ k. not (same_tag_lem (variant_in d.variants k).tag tag)) i d.count ≡ variant_of d tag
+invariant-loop tag d i₀ i = lowest_free (λ k. not (same_tag (variant_in d.variants k).tag tag)) i d.count ≡ variant_of d tag
 
 abbrev decreases-loop : tie.decreases-loop
 decreases-loop tag d i₀ i = d.count - i

@@ -1,0 +1,170 @@
+-- `ipc_holds::inner::release_holds` meets its contract. The loop's invariant: the table is sound, the waiters answered so far stand first, and
+-- releasing what is left of the slots in it gives, after them, what releasing all four gives. Assumes nothing.
+use mathlib.Core.Path.{◌≡◌, refl, sym, ap, ◌∙◌}
+use mathlib.Core.Bool.{true, false}
+use mathlib.Core.List.{List, [], ◌∷◌, ◌++◌, append_assoc, append-nil}
+use Prim.Native.Nat.{ℕ, suc, ◌+◌, ◌-◌, ◌≤◌, ◌<◌}
+use native.Mathlib.Numerals.{add-one}
+use native.Mathlib.Omega.{arith}
+use borrow.Author.Rules.{rules}
+use borrow.Author.Tests.{not-true, not-false}
+use lib.ListN.{length, get_or, set, drop, drop_of_length-le, length-append}
+use lib.Seq.{drop-cons}
+use Rattle.laws.proofs.Cases.{yes, no}
+use Rattle.laws.proofs.Lists.{unmapped}
+use Rattle.cap.specs.Slot.{vacant_slot}
+use Rattle.cap.specs.declared.slot.Slot.{Slot}
+use Rattle.ipc_rules.specs.State.{nobody, mailbox_at, with_mailbox, with_waiter}
+use Rattle.ipc_rules.specs.Sound.{Sound}
+use Rattle.ipc_rules.specs.Opening.{hold_of}
+use Rattle.ipc_rules.specs.Holds.{Freed, fewer, reaps, released, released_all, four_of, release_of}
+use Rattle.ipc_rules.specs.declared.state.Mailbox.{Mailbox}
+use Rattle.ipc_rules.specs.declared.state.Waiter.{Waiter}
+use Rattle.ipc_rules.specs.declared.state.Table.{Table}
+use Rattle.ipc_rules.specs.declared.opening.Opening.{Opening}
+use Rattle.ipc_rules.specs.declared.opening.Opening.TheVariants.{Opens, Shut}
+use Rattle.ipc_rules.specs.declared.answers.Releasing.{Releasing}
+use Rattle.ipc_rules.specs.declared.answers.ReleaseAnswer.TheVariants.{Released}
+use Rattle.ipc_rules.proofs.Openings.{shut, opens, hold_gave, hold_vacant, hold_within, Within}
+use Rattle.ipc_rules.proofs.KeepsCalls.{released_kept}
+use Rattle.ipc_holds.proofs.inner.release_holds.Invariants.{Releases}
+use Rattle.ipc_holds.proofs.inner.release_holds.Goals as goal
+
+start : (t : Table) (xs : List Slot) → Sound t → Releases t xs 0 t (four_of []) 0
+start t xs s = record { sound = s; so_far = []; table = refl; all = refl; places = refl; many = refl; few = omega arith }
+
+-- a turn: the next slot is released, and what that wakes stands after the waiters so far
+module _ {t₀ : Table} {xs : List Slot} {n : ℕ} {t : Table} {waiters : List Waiter} {woken : ℕ} (r : Releases t₀ xs n t waiters woken) (x : Slot) (l : n < length xs) (e : x ≡ get_or xs n vacant_slot) where
+  turn : (f : Freed) {waiters' : List Waiter} {woken' : ℕ} → f ≡ released t x → length f.woken ≤ 1 → waiters' ≡ four_of (r.so_far ++ f.woken) → woken' ≡ length (r.so_far ++ f.woken) → Releases t₀ xs (n + 1) f.table waiters' woken'
+  unfolding released_all
+  turn f h small p m =
+      let c : drop n xs ≡ x ∷ drop (suc n) xs = drop-cons xs n vacant_slot l ∙ ap (λ (y : Slot). y ∷ drop (suc n) xs) (sym e) in
+      record {
+        sound = rw h (released_kept t x r.sound);
+        so_far = r.so_far ++ f.woken;
+        table = rw (h, add-one n) (rw c at r.table);
+        all = rw (h, add-one n, append_assoc) (rw c at r.all);
+        places = p;
+        many = m;
+        few = let k = r.few in rw length-append (omega arith);
+      }
+
+  -- a slot that holds no send end
+  skipped : {q : Opening} → q ≡ hold_of t x → q ≡ Shut → Releases t₀ xs (n + 1) t waiters woken
+  unfolding released
+  skipped g z = turn (record { table = t; woken = [] }) (shut _ g z refl) (omega arith) (rw append-nil r.places) (rw append-nil r.many)
+
+  -- one that holds a send end whose mailbox does not reap, and one whose mailbox does
+  module _ (k : ℕ) (b : Mailbox) {q : Opening} (g : q ≡ hold_of t x) (z : q ≡ Opens k) (h : b ≡ fewer (mailbox_at t k)) where
+    kept : reaps b ≡ false → Releases t₀ xs (n + 1) (with_mailbox t k b) waiters woken
+    unfolding released
+    kept u = turn (record { table = with_mailbox t k b; woken = [] }) (opens _ _ k g z (no _ (rw h at u) (rw h))) (omega arith) (rw append-nil r.places) (rw append-nil r.many)
+
+    reaped : reaps b ≡ true → woken < 4 → Releases t₀ xs (n + 1) (with_mailbox t k (with_waiter b nobody)) (set waiters woken b.waiter) (woken + 1)
+    unfolding released
+    reaped u small =
+        turn (record { table = with_mailbox t k (with_waiter b nobody); woken = b.waiter ∷ [] }) (opens _ _ k g z (yes _ (rw h at u) (rw h))) (omega arith)
+        (rw (r.places, r.many) (next r.so_far b.waiter (rw r.many at small)))
+        (rw (length-append, r.many))
+      where
+        next : (ws : List Waiter) (w : Waiter) → length ws < 4 → set (four_of ws) (length ws) w ≡ four_of (ws ++ (w ∷ []))
+        next [] w h = refl
+        next (a ∷ []) w h = refl
+        next (a ∷ c ∷ []) w h = refl
+        next (a ∷ c ∷ d ∷ []) w h = refl
+        next (a ∷ c ∷ d ∷ e ∷ ws) w h = absurd (omega arith)
+
+done : (t₀ : Table) (xs : List Slot) (n : ℕ) {t : Table} {waiters : List Waiter} {woken : ℕ} → length xs ≤ n → Releases t₀ xs n t waiters woken → ◌≡◌ {A = Releasing} (record { answer = Released; waiters = waiters; table = t }) (release_of t₀ xs)
+unfolding release_of released_all
+done t₀ xs n {t} {waiters} {woken} l r =
+    let z = drop_of_length-le xs l in
+    let p : t ≡ (released_all t₀ xs).table = rw z at r.table in
+    let w : r.so_far ≡ (released_all t₀ xs).woken = rw append-nil at (rw z at r.all) in
+    rw (r.places, w, p)
+
+pub loop-n-init : goal.loop-n-init
+loop-n-init c =
+    let four : length c.args.slots ≡ 4 = search (rules, unmapped) in
+    (search rules, four, start _ _ c.requires)
+
+pub loop-n-preserved-then-not-slot : goal.loop-n-preserved-then-not-slot
+loop-n-preserved-then-not-slot c =
+    let left : c.loop-n.n < length c.args.slots = let f = c.loop-n.invariant.1 in let l : c.loop-n.n < 4 = c.loop-n-test.true in omega arith in
+    let i = c.loop-n.invariant in
+    (search rules, i.1, skipped i.2 _ left refl (hold_vacant _ _ (not-true _ c.if-not-slot.true)) refl)
+
+pub loop-n-preserved-in_default : goal.loop-n-preserved-in_default
+loop-n-preserved-in_default c =
+    let gave : c.open.result ≡ hold_of c.loop-n.t (get_or c.args.slots c.loop-n.n vacant_slot) = hold_gave _ _ _ c.loop-n.invariant.2.sound _ (not-false _ c.if-not-slot.false) c.index-i.ensures c.open.ensures in
+    let left : c.loop-n.n < length c.args.slots = let f = c.loop-n.invariant.1 in let l : c.loop-n.n < 4 = c.loop-n-test.true in omega arith in
+    let i = c.loop-n.invariant in
+    (search rules, i.1, skipped i.2 _ left refl gave c.in_default.is)
+
+pub offset_bounds-t-k : goal.offset_bounds-t-k
+offset_bounds-t-k c =
+    let gave : c.open.result ≡ hold_of c.loop-n.t (get_or c.args.slots c.loop-n.n vacant_slot) = hold_gave _ _ _ c.loop-n.invariant.2.sound _ (not-false _ c.if-not-slot.false) c.index-i.ensures c.open.ensures in
+    let inside : Within c.loop-n.t c.in-Opens.k = hold_within _ _ _ c.loop-n.invariant.2.sound (sym gave ∙ c.in-Opens.is) in
+    omega (arith, inside)
+
+pub bounds-t-k : goal.bounds-t-k
+bounds-t-k c =
+    let gave : c.open.result ≡ hold_of c.loop-n.t (get_or c.args.slots c.loop-n.n vacant_slot) = hold_gave _ _ _ c.loop-n.invariant.2.sound _ (not-false _ c.if-not-slot.false) c.index-i.ensures c.open.ensures in
+    let inside : Within c.loop-n.t c.in-Opens.k = hold_within _ _ _ c.loop-n.invariant.2.sound (sym gave ∙ c.in-Opens.is) in
+    omega (arith, inside)
+
+pub offset_bounds-waiters-woken : goal.offset_bounds-waiters-woken
+offset_bounds-waiters-woken c =
+    let room : c.loop-n.woken < 4 = let r = c.loop-n.invariant.2 in let m = r.many in let f = r.few in omega arith in
+    omega (arith, room)
+
+pub bounds-waiters-woken : goal.bounds-waiters-woken
+bounds-waiters-woken c =
+    let room : c.loop-n.woken < 4 = let r = c.loop-n.invariant.2 in let m = r.many in let f = r.few in omega arith in
+    room
+
+pub overflow_add-woken : goal.overflow_add-woken
+overflow_add-woken c =
+    let room : c.loop-n.woken < 4 = let r = c.loop-n.invariant.2 in let m = r.many in let f = r.few in omega arith in
+    omega (arith, room)
+
+pub offset_bounds-t-k-then-reaps : goal.offset_bounds-t-k-then-reaps
+offset_bounds-t-k-then-reaps c =
+    let gave : c.open.result ≡ hold_of c.loop-n.t (get_or c.args.slots c.loop-n.n vacant_slot) = hold_gave _ _ _ c.loop-n.invariant.2.sound _ (not-false _ c.if-not-slot.false) c.index-i.ensures c.open.ensures in
+    let inside : Within c.loop-n.t c.in-Opens.k = hold_within _ _ _ c.loop-n.invariant.2.sound (sym gave ∙ c.in-Opens.is) in
+    omega (arith, inside)
+
+pub bounds-t-k-then-reaps : goal.bounds-t-k-then-reaps
+bounds-t-k-then-reaps c =
+    let gave : c.open.result ≡ hold_of c.loop-n.t (get_or c.args.slots c.loop-n.n vacant_slot) = hold_gave _ _ _ c.loop-n.invariant.2.sound _ (not-false _ c.if-not-slot.false) c.index-i.ensures c.open.ensures in
+    let inside : Within c.loop-n.t c.in-Opens.k = hold_within _ _ _ c.loop-n.invariant.2.sound (sym gave ∙ c.in-Opens.is) in
+    omega (arith, inside)
+
+pub loop-n-preserved-then-reaps : goal.loop-n-preserved-then-reaps
+loop-n-preserved-then-reaps c =
+    let gave : c.open.result ≡ hold_of c.loop-n.t (get_or c.args.slots c.loop-n.n vacant_slot) = hold_gave _ _ _ c.loop-n.invariant.2.sound _ (not-false _ c.if-not-slot.false) c.index-i.ensures c.open.ensures in
+    let left : c.loop-n.n < length c.args.slots = let f = c.loop-n.invariant.1 in let l : c.loop-n.n < 4 = c.loop-n-test.true in omega arith in
+    let room : c.loop-n.woken < 4 = let r = c.loop-n.invariant.2 in let m = r.many in let f = r.few in omega arith in
+    let i = c.loop-n.invariant in
+    (search rules, i.1, reaped i.2 _ left refl _ _ gave c.in-Opens.is c.fewer-b.ensures (sym c.reaps.ensures ∙ c.if-reaps.true) room)
+
+pub offset_bounds-t-k-in-loop-n : goal.offset_bounds-t-k-in-loop-n
+offset_bounds-t-k-in-loop-n c =
+    let gave : c.open.result ≡ hold_of c.loop-n.t (get_or c.args.slots c.loop-n.n vacant_slot) = hold_gave _ _ _ c.loop-n.invariant.2.sound _ (not-false _ c.if-not-slot.false) c.index-i.ensures c.open.ensures in
+    let inside : Within c.loop-n.t c.in-Opens.k = hold_within _ _ _ c.loop-n.invariant.2.sound (sym gave ∙ c.in-Opens.is) in
+    omega (arith, inside)
+
+pub bounds-t-k-in-loop-n : goal.bounds-t-k-in-loop-n
+bounds-t-k-in-loop-n c =
+    let gave : c.open.result ≡ hold_of c.loop-n.t (get_or c.args.slots c.loop-n.n vacant_slot) = hold_gave _ _ _ c.loop-n.invariant.2.sound _ (not-false _ c.if-not-slot.false) c.index-i.ensures c.open.ensures in
+    let inside : Within c.loop-n.t c.in-Opens.k = hold_within _ _ _ c.loop-n.invariant.2.sound (sym gave ∙ c.in-Opens.is) in
+    omega (arith, inside)
+
+pub loop-n-preserved : goal.loop-n-preserved
+loop-n-preserved c =
+    let gave : c.open.result ≡ hold_of c.loop-n.t (get_or c.args.slots c.loop-n.n vacant_slot) = hold_gave _ _ _ c.loop-n.invariant.2.sound _ (not-false _ c.if-not-slot.false) c.index-i.ensures c.open.ensures in
+    let left : c.loop-n.n < length c.args.slots = let f = c.loop-n.invariant.1 in let l : c.loop-n.n < 4 = c.loop-n-test.true in omega arith in
+    let i = c.loop-n.invariant in
+    (search rules, i.1, kept i.2 _ left refl _ _ gave c.in-Opens.is c.fewer-b.ensures (sym c.reaps.ensures ∙ c.if-reaps.false))
+
+pub returns : goal.returns
+returns c = let i = c.loop-n.invariant in let f = i.1 in let l : 4 ≤ c.loop-n.n = c.loop-n-test.false in done _ _ _ (omega arith) i.2
