@@ -22,7 +22,7 @@ pub struct Row {
     pub slots: [Slot; SLOTS],
 }
 
-#[derive(Drop)]
+#[derive(Clone, Copy)]
 pub struct Table {
     pub rows: [Row; ROWS],
 }

@@ -1,7 +1,6 @@
 -- The test before a call: what it settles, and that what passes it is ready. Assumes nothing.
 use mathlib.Core.Path.{◌≡◌, sym, ◌∙◌}
-use mathlib.Core.Bool.{Bool, true, false, not, ◌&&◌}
-use borrow.Author.Tests.{not-true, not-false}
+use mathlib.Core.Bool.{Bool, true, false, ◌&&◌}
 use Rattle.laws.proofs.Cases.{yes, no}
 use Rattle.laws.proofs.Every.{and_left, and_right}
 use Rattle.ipc_rules.specs.Sound.{Sound}
@@ -20,15 +19,15 @@ module _ (d : Dispatcher) (t : Channels) where
   both_pass {p} {q} e f =
       (simp (e.0, f), λ y. record { bound = bound_of d.count d.variants (sym f ∙ and_right p q y); sound = e.1 (and_left p q y) })
 
-  -- q is what the test answered, as its contract says; the code asks for `!q`
+  -- q is what the test answered, as its contract says
   module _ {q : Bool} (e : (q ≡ ready_test d t) × (q ≡ true → Ready d t)) where
-    pub refused : {A : Type 0} {r refusal : A} (rule : A) → not q ≡ true → r ≡ refusal → r ≡ guarded_by d t refusal rule
+    pub refused : {A : Type 0} {r refusal : A} (rule : A) → q ≡ false → r ≡ refusal → r ≡ guarded_by d t refusal rule
     unfolding guarded_by
-    refused rule n h = no rule (sym e.0 ∙ not-true q n) h
+    refused rule n h = no rule (sym e.0 ∙ n) h
 
-    pub served : {A : Type 0} {r rule : A} (refusal : A) → not q ≡ false → r ≡ rule → r ≡ guarded_by d t refusal rule
+    pub served : {A : Type 0} {r rule : A} (refusal : A) → q ≡ true → r ≡ rule → r ≡ guarded_by d t refusal rule
     unfolding guarded_by
-    served refusal n h = yes refusal (sym e.0 ∙ not-false q n) h
+    served refusal n h = yes refusal (sym e.0 ∙ n) h
 
-    pub passed : not q ≡ false → Ready d t
-    passed n = e.1 (not-false q n)
+    pub passed : q ≡ true → Ready d t
+    passed n = e.1 n

@@ -1,0 +1,13 @@
+-- `ipc::queued` meets its contract: the test, and the call on a table that passed it. Assumes nothing.
+use borrow.Author.Rules.{rules}
+use Rattle.ipc_sound.proofs.Guards.{refused, served, passed}
+use Rattle.ipc.proofs.queued.Goals as goal
+
+pub returns-then-not-sound : goal.returns-then-not-sound
+returns-then-not-sound c = search (refused, rules)
+
+pub queued-requires : goal.queued-requires
+queued-requires c = passed _ c.sound.ensures c.if-not-sound.false
+
+pub returns : goal.returns
+returns c = served _ c.sound.ensures _ c.if-not-sound.false c.queued.ensures

@@ -1,0 +1,13 @@
+-- `ipc::revoke_channel` meets its contract: the test, and the call on a table that passed it. Assumes nothing.
+use borrow.Author.Rules.{rules}
+use Rattle.ipc_sound.proofs.Guards.{refused, served, passed}
+use Rattle.ipc.proofs.revoke_channel.Goals as goal
+
+pub returns-then-not-sound : goal.returns-then-not-sound
+returns-then-not-sound c = search (refused, rules)
+
+pub revoke_channel-requires : goal.revoke_channel-requires
+revoke_channel-requires c = passed _ c.sound.ensures c.if-not-sound.false
+
+pub returns : goal.returns
+returns c = served _ c.sound.ensures _ c.if-not-sound.false c.revoke_channel.ensures
