@@ -18,8 +18,7 @@ use Rattle.joined.specs.Steps.{give_refused, give_of}
 use Rattle.joined.specs.declared.answers.Giving.{Giving}
 use Rattle.joined.specs.declared.answers.GiveAnswer.TheVariants.{Given, BadSlot}
 use Rattle.joined.proofs.Register.{word_registered, refuses, succeeds}
-use Rattle.joined.proofs.inner.giving.give.Statement.{statement}
-use Rattle.joined.proofs.inner.giving.give.Tie as tie
+use Rattle.joined.proofs.inner.giving.give.Goals as goal
 
 module _ (channels : Channels) (rows : Rows) (r s : ℕ) (c : CapId) {i : Installing} (e : i ≡ install_of rows r s c) where
   neither : i.answer ≡ Occupied → give_refused BadSlot channels rows ≡ give_of channels rows r s c
@@ -34,43 +33,10 @@ module _ (channels : Channels) (rows : Rows) (r s : ℕ) (c : CapId) {i : Instal
       succeeds (ap (λ (x : Installing). x.answer) e) _ y
       (rw (g, e, word_registered channels w (holding c) (ap read_word p ∙ holding_back c l)))
 
-id-fits : (c : tie.Start) → c.args.id.raw < 4294967296
-id-fits c = search rules
+pub returns-in_default : goal.returns-in_default
+returns-in_default c = neither _ _ _ _ _ c.install-installed.ensures c.in_default.is
 
-install-requires : tie.Need-install-requires
-install-requires c κs = search rules
-
-enum_told : tie.Need-enum-told
-enum_told c = search rules
-
-enum-told-2 : tie.Need-enum-told-2
-enum-told-2 c = search rules
-
-returns : tie.Need-returns
-returns c = neither _ _ _ _ _ c.before.before.install.ensures c.enum-told2.given.1
-
-word-of-requires : tie.Need-word-of-requires
-word-of-requires c κs = search rules
-
-slice-aggregate-register-holds : tie.Need-slice-aggregate-register-init
-slice-aggregate-register-holds c = search rules
-
-register-holds-requires : tie.Need-register-holds-requires
-register-holds-requires c κs = search rules
-
-returns-2 : tie.Need-returns-2
-returns-2 c =
-    both _ _ _ _ _ c.before.before.before.before.before.before.before.install.ensures c.before.before.before.before.before.enum_told.given.1 (id-fits c.before.before.before.before.before.before.before.before) c.before.before.before.word_of.ensures c.before.register-holds.ensures
-
-pub give_spec : {M : Type 1} → statement M
-give_spec =
-    tie.close
-    (tie.spec
-    install-requires
-    enum_told
-    enum-told-2
-    returns
-    word-of-requires
-    slice-aggregate-register-holds
-    register-holds-requires
-    returns-2)
+pub returns : goal.returns
+returns c =
+    let id-fits : c.args.id.raw < 4294967296 = search rules in
+    both _ _ _ _ _ c.install-installed.ensures c.in-Installed.is id-fits c.word_of.ensures c.register_holds-registered.ensures

@@ -1,7 +1,6 @@
 -- `joined::inner::leaving::leave` meets its contract. Assumes nothing.
 use mathlib.Core.Path.{◌≡◌}
 use Prim.Native.Nat.{ℕ, ◌<◌}
-use borrow.Author.Rules.{rules}
 use borrow.Author.Tests.{lt-leb}
 use Rattle.laws.proofs.Cases.{cases, no}
 use Rattle.capslots.specs.Rows.{drain_of}
@@ -13,8 +12,7 @@ use Rattle.ipc_rules.specs.declared.answers.Releasing.{Releasing}
 use Rattle.joined.specs.Steps.{leave_of}
 use Rattle.joined.specs.declared.answers.Leaving.{Leaving}
 use Rattle.joined.specs.declared.answers.LeaveAnswer.TheVariants.{Left}
-use Rattle.joined.proofs.inner.leaving.leave.Statement.{statement}
-use Rattle.joined.proofs.inner.leaving.leave.Tie as tie
+use Rattle.joined.proofs.inner.leaving.leave.Goals as goal
 
 -- with a row below 54, what the two calls leave is what the rule gives
 both : (channels : Channels) (rows : Rows) (r : ℕ) {d : Drained} {g : Releasing} → r < 54 → d ≡ drain_of rows r → g ≡ release_of channels d.slots
@@ -22,18 +20,9 @@ both : (channels : Channels) (rows : Rows) (r : ℕ) {d : Drained} {g : Releasin
 unfolding leave_of
 both channels rows r l d g = no _ (lt-leb 54 r l) (rw (g, d))
 
-returns : tie.Need-returns
+pub returns-then-row-ge-ROWS : goal.returns-then-row-ge-ROWS
 unfolding leave_of
-returns c = search cases
+returns-then-row-ge-ROWS c = search cases
 
-drain-requires : tie.Need-drain-requires
-drain-requires c κs = search rules
-
-release-holds-requires : tie.Need-release-holds-requires
-release-holds-requires c κs = search rules
-
-returns-2 : tie.Need-returns-2
-returns-2 c = both _ _ _ c.before.before.before.before.before.before.if1.false c.before.before.before.before.before.drain.ensures c.before.before.release-holds.ensures
-
-pub leave_spec : {M : Type 1} → statement M
-leave_spec = tie.close (tie.spec returns drain-requires release-holds-requires returns-2)
+pub returns : goal.returns
+returns c = both _ _ _ c.if-row-ge-ROWS.false c.drain-drained.ensures c.release_holds-released.ensures

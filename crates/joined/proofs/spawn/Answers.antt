@@ -1,0 +1,13 @@
+-- `joined::spawn` meets its contract: the test, and the step on a table that passed it. Assumes nothing.
+use borrow.Author.Rules.{rules}
+use Rattle.ipc_sound.proofs.Guards.{refused, served, passed}
+use Rattle.joined.proofs.spawn.Goals as goal
+
+pub returns-then-not-sound : goal.returns-then-not-sound
+returns-then-not-sound c = search (refused, rules)
+
+pub spawn-requires : goal.spawn-requires
+spawn-requires c = passed _ c.sound.ensures c.if-not-sound.false
+
+pub returns : goal.returns
+returns c = served _ c.sound.ensures _ c.if-not-sound.false c.spawn.ensures
