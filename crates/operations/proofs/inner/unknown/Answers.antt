@@ -1,0 +1,8 @@
+-- `operations::inner::unknown` meets its contract. Assumes nothing.
+use mathlib.Core.Path.{ap}
+use Rattle.shown.specs.declared.Shown.{Shown}
+use Rattle.operations.specs.Done.{outcome}
+use Rattle.operations.proofs.inner.unknown.Goals as goal
+
+pub returns : goal.returns
+returns c = ap (λ (s : Shown). outcome s c.args.t) c.none.ensures
