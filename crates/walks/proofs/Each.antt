@@ -1,6 +1,6 @@
 -- The walk of
 --     fn f(t: B, s: &[E]) -> R { let mut a = begin(t); let mut i: usize = 0; while i < s.len() { a = each(a, s[i]); i = i + 1; } finish(a) }
--- for any structs B, E, S (a's) and R of plain data, and covered functions begin, each and finish whose contracts say `r ≡ begin t`, `r ≡ step a x` and `r ≡ finish a`. f's says `r ≡ F t (now s)`, where F t xs is shown to be `finish (over step (begin t) xs)`.
+-- for any structs B, E, S (a's) and R of plain data, and covered functions begin, each and finish whose contracts say `r ≡ begin t`, `r ≡ step a x` and `r ≡ finish a`. f's says `r ≡ F t s.now`, where F t xs is shown to be `finish (over step (begin t) xs)`.
 --     function     f's MIR: a crate's own is this one by computation
 --     meets        f's contract holds of it
 -- The slice is looked into in each turn, its element i is copied out, and the slice is shut before `each` is called. Assumes nothing.
@@ -16,8 +16,8 @@ use lib.ListN.{length, get_or, drop as dropped, drop_of_length-le}
 use lib.WfN.{lt-wf_rel}
 use lib.Dec.{T, ltb, ltb→lt, nltb→le, lit<}
 use seplogic.Ra.Ura.{Ura}
-use seplogic.Ra.TreeShare.{full_share}
-use mir.Syntax.{Name, Ty, Fn, Body as Code, named, imm, w64, ty_int, ty_bool, ty_ptr, ty_ref, deref, field, place, unsigned, copy, int, local, value_local, skip as skipᴹ, seq, assign, block, loop, cond, exit, return, call, rv_opd, op2, add, mul, lt, offset}
+use base.Fraction.{full_share}
+use mir.Syntax.{Callee, Ty, Fn, Body as Code, named, imm, w64, ty_int, ty_bool, ty_ptr, ty_ref, deref, field, place, unsigned, copy, int, local, value_local, skip as skipᴹ, seq, assign, block, loop, cond, exit, return, call, rv_opd, op2, add, mul, lt, offset}
 use mir.Val.{Val, vint, vptr}
 use base.Logic.{SProp, ent, via, mono_r}
 use base.Fml.{Lft, GName, Share, Fml, ftrue, fat, froom, fdies, flft}
@@ -29,7 +29,7 @@ use types.Kit.{Item, ‵, runs, any_q, at_ret, Sq, ◌⊛◌, ⋆, ◌$◌, ◌�
 use types.Part.{whole, sub, look_in}
 use types.Run.{look, look_raw, store, init, forget, stop, hop, fld, from, load, and_then, no_more, land, lit, of_opd, bin, assigns, assigns_last, first, skips, jumps, blocks, branches, returns, enter, alloc1, alloc0, params1, pass1, pass0, free1, free0, exec, Below, again, loops}
 use denote.Exit.{yes, Last, left}
-use denote.RattleType.{owns}
+use denote.RattleType.{RowLaws, owns}
 use denote.Laws.{Is, shows}
 use denote.Memory.{mem, pointee}
 use denote.Ref.{Bor}
@@ -37,7 +37,10 @@ use denote.Slice.{slice_ty, slice_val, ShrSlice, Room, shr_slice_copy, shr_slice
 use denote.Index.{place_is, elem_out, elem_back, looks_slice, shuts_slice}
 use denote.Signature.{plain, shr_slice}
 use denote.Steps.{nothing, owned}
+use denote.Struct.Declared.{shape}
 use denote.Struct.Laws as LL
+use denote.Struct.Recorded.{Recorded-row_laws}
+use denote.Struct.Struct.{Struct, Struct-row_laws}
 use denote.Triple.Statement.{Triple}
 use denote.Triple.Entry.{on_entry}
 use denote.Triple.Spec.{Meets}
@@ -65,11 +68,14 @@ abbrev word : Ty
 word = ty_int w64
 
 -- ---- the walk. asks-f: what f requires, of t. Good: what is so of a in every turn
-module _ (B S R E : Kind) (cE : LL.Copyables E.type.parts) (none : D E) (begin : D B → D S) (step : D S → D E → D S) (finish : D S → D R) (F : D B → List (D E) → D R) (#begin #each #finish : Name)
+module _ (B S R E : Kind) (cE : LL.Copyables E.type.parts) (none : D E) (begin : D B → D S) (step : D S → D E → D S) (finish : D S → D R) (F : D B → List (D E) → D R) (#begin #each #finish : Callee)
     (asks-f asks-begin : Asks (D B)) (asks-each : Asks (D S × D E)) (asks-finish : Asks (D S)) (Good : D S → Type 0) (may-begin : (t : D B) → asks-f.that t → asks-begin.that t) (good : (t : D B) → asks-f.that t → Good (begin t))
     (may-step : (a : D S) (x : D E) → Good a → asks-each.that (a, x)) (stays-good : (a : D S) (x : D E) → Good a → Good (step a x)) (may-finish : (a : D S) → Good a → asks-finish.that a) where
   abbrev size : ℕ
   size = (mem (row E)).size
+
+  rows : RowLaws (row E)
+  rows = Recorded-row_laws (Struct (shape E.type)) E.type.D E.type.to E.type.to_one (Struct-row_laws (shape E.type) (LL.copy_row_laws E.type.parts cE))
 
   abbrev slice : Ty
   slice = slice_ty (ty_ref (named 0) imm (pointee (row E).written))
@@ -94,6 +100,8 @@ module _ (B S R E : Kind) (cE : LL.Copyables E.type.parts) (none : D E) (begin :
   function = record {
     lifetimes = 1;
     outlives = [];
+    ty_params = [];
+    givens = 0;
     params = 2;
     locals = local (ty R) value_local ∷ local (ty B) value_local ∷ local slice value_local ∷ local (ty S) value_local ∷ local word value_local ∷ local word value_local ∷ local ty_bool value_local ∷ local ty_ptr value_local ∷ local (ty E) value_local ∷ [];
     body = seq (call #begin (copy (place 1 []) ∷ []) (place 3 [])) (seq (assign (place 4 []) (rv_opd (int w64 0))) (seq (block (loop turn)) rest));
@@ -183,8 +191,8 @@ module _ (B S R E : Kind) (cE : LL.Copyables E.type.parts) (none : D E) (begin :
               assigns ! (bin ! (load ! (from ! (fld ! refl (stop !))) (look_in ! 12 (sub ! 0 refl (whole !)))) (load ! (from ! (stop !)) (look ! 6 refl)) tt) (from ! (stop !)) (init ! 2 refl (tt, tt)) $
               rewrite ! 2 (λ (p : ℕ). ‵ (fat full_share ty_ptr l₇ 0 (vptr b p))) (sym (place_is size o i)) refl $
               -- of s one copy is kept whole, and of the other its fractured borrow
-              move ! (18 ∷ []) $ use1 𝓛 (‵ Own ⊛ ‵ Own) ((shr_slice_copy 𝓛 (named 0) κ (row E)).twice s (slice_val (b, o) n ∷ [])) $ split ! $ fsplit ! $ drop ! $ fsplit ! $ drop ! $ move ! (0 ∷ 20 ∷ []) $
-              looks_slice ! tt (row E) (Is (row E)) (shows 𝓛 (row E)) (LL.vals E.type E.laws) (LL.tells E.type E.laws) (LL.copy E.type cE 𝓛) ys b o (λ q'.
+              move ! (18 ∷ []) $ use1 𝓛 (‵ Own ⊛ ‵ Own) ((shr_slice_copy 𝓛 (named 0) κ (row E) rows).twice s (slice_val (b, o) n ∷ [])) $ split ! $ fsplit ! $ drop ! $ move ! (0 ∷ 20 ∷ []) $
+              looks_slice ! tt (row E) (LL.copied E.type cE 𝓛) ys b o (λ q'.
               elem_out ! (row E) (Is (row E)) (shows 𝓛 (row E)) (LL.vals E.type E.laws) (LL.tells E.type E.laws) q' ys i none b o (ltb→lt i n less) (λ is.
               -- [s[i]; what it owns; the others; what shuts; the fractured borrow; s; _8; …; _7; …; _0; …]
               assigns ! (of_opd ! (load ! (from ! (hop ! (look ! 8 refl) (stop !))) (look_raw ! 0 refl))) (from ! (stop !)) (init ! 6 refl (typed_as E 𝓛 x w is)) $

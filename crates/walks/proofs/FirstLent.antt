@@ -1,6 +1,6 @@
 -- The walk of
---     fn f(t: B, xs: [E; k], n: usize) -> R requires { ⌜ n ≤ k ⌝ } { g(t, &xs[..n]) }
--- for any structs B, E and R of plain data, where g takes a `&[E]` and its contract says `r ≡ F t (now s)`. f's says `r ≡ F t (take n xs)`, so whoever calls f needs no walk.
+--     fn f(t: B, xs: [E; k], n: usize) -> R requires { n ≤ k } { g(t, &xs[..n]) }
+-- for any structs B, E and R of plain data, where g takes a `&[E]` and its contract says `r ≡ F t s.now`. f's says `r ≡ F t (take n xs)`, so whoever calls f needs no walk.
 --     function     f's MIR: a crate's own is this one by computation
 --     meets        f's contract holds of it
 -- The array's copy in memory is parted, its first n elements are lent for a lifetime that the walk makes, and they are taken back once g has returned. Assumes nothing.
@@ -10,15 +10,16 @@ use native.Mathlib.Nat.{not-suc-le-zero, le_of_suc-le-suc, lt_of_le_of_lt}
 use mathlib.Core.List.{List, [], ◌∷◌, ◌++◌}
 use lib.ListN.{length, take, drop as dropped, take-append-drop}
 use seplogic.Ra.Ura.{Ura}
-use seplogic.Ra.TreeShare.{full_share}
+use base.Fraction.{full_share}
 use mir.Raw.{raw as raw_ty}
-use mir.Syntax.{Name, Ty, Fn, named, erased, imm, w64, ty_int, ty_ref, ty_array, place, copy, local, value_local, memory_slot, seq, assign, call, return, rv_opd, addr_of, aggregate}
+use mir.Syntax.{Callee, Ty, Fn, named, erased, imm, w64, ty_int, ty_ref, ty_array, place, copy, local, value_local, memory_slot, seq, assign, call, return, rv_opd, addr_of, aggregate}
 use mir.Val.{Val, vint, WT, has_ty}
 use lib.Dec.{T}
 use base.Logic.{SProp, ent, sep, emp, snd∗, ex_e, id⊢}
-use base.Fml.{GName, Fml, ftrue, fat, fsep, flft, flent}
+use base.Fml.{Fml, ftrue, fat, fsep, flft, flent}
 use prog.Wp.{WpFn, Tables}
 use types.Logic.{Logic, sem}
+use contract.BorrowLft.{⊑_static, ⊑_refl}
 use contract.Monad.{fact}
 use types.Kit.{‵, raw, ◌⊛◌, ⋆, some, later, ◌$◌, ◌∵◌, !, qed, by, move, keep, drop, use0, use1, use2, use3, split, join, pick, rewrite, fsplit, fjoin, fpack, fpick, feq_i, suffices, await, done}
 use types.Tokens.{lft_new, lft_end, lent_back}
@@ -81,7 +82,7 @@ module _ {M : Type 1} {𝓤 : Ura M} (𝓛 : Logic 𝓤) (R : RattleType) (b : �
       feq_i ! ℕ (length xs) (length xs) refl $ fjoin ! $ done !)
 
 -- ---- the walk
-module _ (B R E : Kind) (k : ℕ) (F : D B → List (D E) → D R) (#g : Name) where
+module _ (B R E : Kind) (cE : LL.Copyables E.type.parts) (k : ℕ) (F : D B → List (D E) → D R) (#g : Callee) where
   abbrev Row : RattleType
   Row = Array (row E) k
 
@@ -96,6 +97,8 @@ module _ (B R E : Kind) (k : ℕ) (F : D B → List (D E) → D R) (#g : Name) w
   function = record {
     lifetimes = 0;
     outlives = [];
+    ty_params = [];
+    givens = 0;
     params = 3;
     locals = local (ty R) value_local ∷ local (ty B) value_local ∷ local array value_local ∷ local (ty_int w64) value_local ∷ local array memory_slot ∷ local (ty_ref erased imm (pointee Row.written)) value_local ∷ local slice value_local ∷ [];
     body = seq (assign (place 4 []) (rv_opd (copy (place 2 []))))
@@ -161,7 +164,7 @@ module _ (B R E : Kind) (k : ℕ) (F : D B → List (D E) → D R) (#g : Name) w
           owned ! Row (Is Row) (Array-Makes 𝓛 (row E) (LL.makes E.type E.plainly 𝓛) k) xs (v ∷ []) too $ fjoin ! $
           owned ! (row B) (Is (row B)) (LL.makes B.type B.plainly 𝓛) t (val_b t ∷ []) was $ fjoin ! $ nothing ! $ done !
 
-      module _ (l : ℕ) (α : ℕ) (γ : GName) where
+      module _ (l : ℕ) (α : ℕ) where
         abbrev s : Bor (List (D E))
         s = record { ref_ptr = (l, 0); now = few }
 
@@ -171,9 +174,9 @@ module _ (B R E : Kind) (k : ℕ) (F : D B → List (D E) → D R) (#g : Name) w
         abbrev to_g : (Takes 𝓛).Ghost
         to_g = (((α ∷ [], tt), (full_share, tt), tt, (t, (s, tt)), (val_b t ∷ [], (slice_val (l, 0) (length few) ∷ [], tt))), tt)
 
-        goes_in : ent 𝓤 (⋆ 𝓛 (‵ ((row B).own t (val_b t ∷ [])) ∷ ‵ Own ∷ ‵ (flft (α ∷ []) full_share) ∷ [])) ((Takes 𝓛).pre to_g)
+        goes_in : ent 𝓤 (⋆ 𝓛 (‵ ((row B).own_val t (val_b t ∷ [])) ∷ ‵ Own ∷ ‵ (flft (α ∷ []) full_share) ∷ [])) ((Takes 𝓛).pre to_g)
         goes_in =
-            qed 𝓛 (‵ ((row B).own t (val_b t ∷ [])) ∷ ‵ Own ∷ ‵ (flft (α ∷ []) full_share) ∷ []) ∵ nothing ! $ move ! (2 ∷ 0 ∷ []) $ fjoin ! $ move ! (1 ∷ 0 ∷ []) $ fjoin ! $ nothing ! $ move ! (2 ∷ 0 ∷ []) $ join ! $ join ! $ use0 𝓛 (raw (emp 𝓤)) (id⊢ 𝓤 (emp 𝓤)) $ move ! (1 ∷ 0 ∷ []) $ done !
+            qed 𝓛 (‵ ((row B).own_val t (val_b t ∷ [])) ∷ ‵ Own ∷ ‵ (flft (α ∷ []) full_share) ∷ []) ∵ nothing ! $ move ! (2 ∷ 0 ∷ []) $ fjoin ! $ move ! (1 ∷ 0 ∷ []) $ fjoin ! $ nothing ! $ move ! (2 ∷ 0 ∷ []) $ join ! $ join ! $ use0 𝓛 (raw (emp 𝓤)) (id⊢ 𝓤 (emp 𝓤)) $ move ! (1 ∷ 0 ∷ []) $ done !
 
         said : (r : D R) → ent 𝓤 (ensured 𝓛 lent (lent_spec 𝓤) (α ∷ [], tt) (t, (s, tt)) tt r) (fact 𝓤 (r ≡ F t few))
         said r = ex_e 𝓤 _ (λ ws. snd∗ 𝓤 (sem 𝓛 (lasts lent (α ∷ [], tt) (t, (s, tt)) ws)) (fact 𝓤 (r ≡ F t few)))
@@ -194,13 +197,14 @@ module _ (B R E : Kind) (k : ℕ) (F : D B → List (D E) → D R) (#g : Name) w
           use1 𝓛 (‵ ((arr_parts (shares (row E)) k).part full_share xs l₄ 0)) (Array-apart 𝓛 (row E) full_share tt k xs l₄ 0) $
           rewrite ! 0 (λ (m : ℕ). ‵ ((arr_parts (shares (row E)) m).part full_share xs l₄ 0)) (sym len) refl $
           use1 𝓛 (‵ (All 𝓛 (row E) l₄ few 0) ⊛ ‵ (All 𝓛 (row E) l₄ (dropped n xs) (past 𝓛 (row E) l₄ n xs))) (parted 𝓛 (row E) l₄ xs n) $ split ! $
-          lft_new ! tt (λ α. move ! (1 ∷ []) $
-          use1 𝓛 (later (some (λ (γ : GName). ‵ (Own l₄ α γ) ⊛ ‵ (flent (α ∷ []) (All 𝓛 (row E) l₄ few 0))))) (lends_shr_slice 𝓛 (row E) (named 0) (α ∷ []) full_share few l₄ 0 (Room-take (row E) k n xs len room)) $ await ! tt $ pick ! (λ γ. split ! $
-          move ! (0 ∷ 2 ∷ []) $ owned ! (row B) (Is (row B)) (LL.makes B.type B.plainly 𝓛) t (val_b t ∷ []) was $ use3 𝓛 (raw ((Takes 𝓛).pre (to_g l₄ α γ))) (goes_in l₄ α γ) $
+          lft_new ! tt (λ α. move ! (1 ∷ 0 ∷ []) $
+          use2 𝓛 (later ((‵ (Own l₄ α) ⊛ ‵ (flent (α ∷ []) (All 𝓛 (row E) l₄ few 0))) ⊛ ‵ (flft (α ∷ []) full_share)))
+          (lends_shr_slice 𝓛 (row E) (named 0) (α ∷ []) full_share few l₄ 0 (Room-take (row E) k n xs len room) [] ((LL.copied E.type cE 𝓛).shares full_share []) ((α ∷ [], full_share) ∷ []) (⊑_static (α ∷ [])) (⊑_refl (α ∷ []))) $ await ! tt $ split ! $ split ! $
+          move ! (0 ∷ 2 ∷ []) $ owned ! (row B) (Is (row B)) (LL.makes B.type B.plainly 𝓛) t (val_b t ∷ []) was $ use3 𝓛 (raw ((Takes 𝓛).pre (to_g l₄ α))) (goes_in l₄ α) $
           -- [g's pre; what is lent; the rest; …; _6; …; _5; …; that _4 dies; _3; …; _2; …; _1; …; _0; …; true]
-          calls_at ! (fm_of 𝓤 H 𝓛.laws 𝓣) (Takes 𝓛) known (to_g l₄ α γ) (and_then ! (load ! (from ! (stop !)) (look ! 13 refl)) (and_then ! (load ! (from ! (stop !)) (look ! 4 refl)) (no_more !))) (λ w.
-          use1 𝓛 (later (some (λ (r : D R). ((‵ (flft (α ∷ []) full_share) ⊛ ‵ ftrue) ⊛ ‵ ((row R).own r (w ∷ []))) ⊛ raw (ensured 𝓛 lent (lent_spec 𝓤) (α ∷ [], tt) (t, (s l₄ α γ, tt)) tt r)))) (id⊢ 𝓤 _) $ await ! tt $ pick ! (λ r.
-          split ! $ move ! (1 ∷ []) $ use1 𝓛 (raw (fact 𝓤 (r ≡ F t few))) (said l₄ α γ r) $ heard ! (r ≡ F t few) (λ e. split ! $ move ! (1 ∷ []) $
+          calls_at ! (fm_of 𝓤 H 𝓛.laws 𝓣) (Takes 𝓛) known (to_g l₄ α) (and_then ! (load ! (from ! (stop !)) (look ! 13 refl)) (and_then ! (load ! (from ! (stop !)) (look ! 4 refl)) (no_more !))) (λ w.
+          use1 𝓛 (later (some (λ (r : D R). ((‵ (flft (α ∷ []) full_share) ⊛ ‵ ftrue) ⊛ ‵ ((row R).own_val r (w ∷ []))) ⊛ raw (ensured 𝓛 lent (lent_spec 𝓤) (α ∷ [], tt) (t, (s l₄ α, tt)) tt r)))) (id⊢ 𝓤 _) $ await ! tt $ pick ! (λ r.
+          split ! $ move ! (1 ∷ []) $ use1 𝓛 (raw (fact 𝓤 (r ≡ F t few))) (said l₄ α r) $ heard ! (r ≡ F t few) (λ e. split ! $ move ! (1 ∷ []) $
           peeks ! (row R) (Is (row R)) (shows 𝓛 (row R)) r (w ∷ []) (λ is. drop ! $ split ! $ lft_end ! tt $ move ! (0 ∷ 2 ∷ []) $ lent_back ! tt $
           move ! (0 ∷ 2 ∷ []) $ use2 𝓛 (‵ (All 𝓛 (row E) l₄ xs 0)) (joined 𝓛 (row E) l₄ xs n) $
           rewrite ! 0 (λ (m : ℕ). ‵ ((arr_parts (shares (row E)) m).part full_share xs l₄ 0)) len refl $ use1 𝓛 (‵ (part_at Row full_share xs l₄ 0)) (Array-whole 𝓛 (row E) full_share k xs l₄ 0) $
@@ -210,7 +214,7 @@ module _ (B R E : Kind) (k : ℕ) (F : D B → List (D E) → D R) (#g : Name) w
           land ! (from ! (stop !)) (init ! 14 refl (typed_as R 𝓛 r w is)) $
           returns ! (look ! 14 refl) $ forget ! 0 refl $ forget ! 3 refl $ forget ! 5 refl $ forget ! 8 refl $ forget ! 10 refl $ forget ! 12 refl $ forget ! 14 refl $
           move ! (14 ∷ 15 ∷ []) $ free1 ! $ move ! (12 ∷ 13 ∷ []) $ free1 ! $ move ! (10 ∷ 11 ∷ []) $ free1 ! $ move ! (8 ∷ 9 ∷ []) $ free1 ! $ move ! (0 ∷ 7 ∷ []) $ free1 ! $ move ! (4 ∷ 5 ∷ []) $ free1 ! $ move ! (2 ∷ 3 ∷ []) $ free1 ! $ free0 ! $
-          keep ! [] $ by ! (exits r w is e)))))))))))))))
+          keep ! [] $ by ! (exits r w is e))))))))))))))
         where
           typed : T (has_ty array v) × WT v
           typed = ((Array-Lawful 𝓛 (row E) (LL.lawful E.type E.laws 𝓛) k).typed xs (v ∷ []) too).0

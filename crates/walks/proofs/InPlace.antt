@@ -1,6 +1,6 @@
 -- The walk of
 --     fn f(r: &mut S) { *r = g(*r); }
--- for any struct S of plain data and a covered function g whose contract says `x ≡ G s`. f's says `now r.exit ≡ G (now r.entry)`.
+-- for any struct S of plain data and a covered function g whose contract says `x ≡ G s`. f's says `r.new ≡ G r.old`.
 --     function     f's MIR: a crate's own is this one by computation
 --     meets        f's contract holds of it
 -- The borrow is opened, the struct is copied out, g is called with the copy, its result is stored, and the borrow is closed at that record. Assumes nothing.
@@ -8,8 +8,8 @@ use mathlib.Core.Path.{◌≡◌, refl}
 use Prim.Native.Nat.{ℕ}
 use mathlib.Core.List.{List, [], ◌∷◌}
 use seplogic.Ra.Ura.{Ura}
-use seplogic.Ra.TreeShare.{full_share}
-use mir.Syntax.{Name, Ty, Fn, named, mut, ty_unit, ty_ref, deref, place, copy, opd_unit, local, value_local, seq, assign, call, return, rv_opd}
+use base.Fraction.{full_share}
+use mir.Syntax.{Callee, Ty, Fn, named, mut, ty_unit, ty_ref, deref, place, copy, opd_unit, local, value_local, seq, assign, call, return, rv_opd}
 use mir.Val.{Val, vunit, vptr}
 use base.Logic.{SProp, ent, sep, emp, via, fst∗}
 use base.Fml.{GName, Lft, Share, ftrue, flft, fobs, fbor}
@@ -37,7 +37,7 @@ use denote.Triple.Walked.{says, Stays, stay_ref, walk_of, Goes-ref, ends_at, wal
 use denote.Triple.Clauses.{Clauses, Ended, closing}
 use Rattle.walks.proofs.Records.{Kind, row, ty, D, typed_as, nothing_asked, Takes1, calls1}
 
-module _ (S : Kind) (G : D S → D S) (#g : Name) where
+module _ (S : Kind) (G : D S → D S) (#g : Callee) where
   abbrev ref : Ty
   ref = ty_ref (named 0) mut (pointee (row S).written)
 
@@ -46,6 +46,8 @@ module _ (S : Kind) (G : D S → D S) (#g : Name) where
   function = record {
     lifetimes = 1;
     outlives = [];
+    ty_params = [];
+    givens = 0;
     params = 1;
     locals = local ty_unit value_local ∷ local ref value_local ∷ local (ty S) value_local ∷ local (ty S) value_local ∷ [];
     body = seq (assign (place 3 []) (rv_opd (copy (place 1 (deref (ty S) ∷ [])))))

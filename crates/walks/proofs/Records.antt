@@ -7,7 +7,7 @@ use mathlib.Core.Path.{◌≡◌}
 use mathlib.Core.List.{List, [], ◌∷◌}
 use lib.Dec.{T}
 use seplogic.Ra.Ura.{Ura}
-use mir.Syntax.{Name, Place, Opd as Operand, Ty, Body as Code, seq, call}
+use mir.Syntax.{Callee, Place, Opd as Operand, Ty, Body as Code, seq, call}
 use mir.Val.{Val, WT, has_ty}
 use base.Logic.{SProp, ent, emp, snd∗, ex_e, guard_i, id⊢}
 use base.Fml.{ftrue}
@@ -79,16 +79,16 @@ module _ (P Q : Kind) (asks : Asks (D P)) (f : D P → D Q) where
   abbrev pub Takes1 : {M : Type 1} {𝓤 : Ura M} (𝓛 : Logic 𝓤) → Contract 𝓤
   Takes1 {𝓤 = 𝓤} 𝓛 = triple_of 𝓛 ended1.signature (closing 𝓛 ended1 (clauses1 𝓤))
 
-  module _ {M : Type 1} {𝓤 : Ura M} {𝓛 : Logic 𝓤} {K : Type 0} {Γ : List (Item 𝓤)} {E : Env 𝓤 𝓛.H} {C : Calls 𝓤 𝓛.H} {g : Name} {xs : List Operand} {Λ : Loops 𝓤 𝓛.H} {q : After 𝓤 𝓛.H} {d : Place} {rest : Code} where
+  module _ {M : Type 1} {𝓤 : Ura M} {𝓛 : Logic 𝓤} {K : Type 0} {Γ : List (Item 𝓤)} {E : Env 𝓤 𝓛.H} {C : Calls 𝓤 𝓛.H} {g : Callee} {xs : List Operand} {Λ : Loops 𝓤 𝓛.H} {q : After 𝓤 𝓛.H} {d : Place} {rest : Code} where
     open 𝓛 use {H}
 
     pub calls1 : K → FmC 𝓤 H 𝓛.laws C → Triple 𝓤 (C g) (Takes1 𝓛) → (x : D P) (v : Val) → Has P x v → asks.that x → Opds K 𝓛 (raw ((Takes1 𝓛).pre ((tt, tt, tt, (x, tt), (v ∷ [], tt)), tt)) ∷ Γ) E xs (v ∷ [])
         → ((r : D Q) (w : Val) → Has Q r w → r ≡ f x → Seq K 𝓛 Γ (lands C Λ E d w rest q)) → Seq K 𝓛 Γ (runs C Λ E (seq (call g xs d) rest) q)
     calls1 k fm known x v is ok os then =
         owned k (row P) (Is (row P)) (LL.makes P.type P.plainly 𝓛) x (v ∷ []) is $
-        use1 𝓛 (raw ((Takes1 𝓛).pre ((tt, tt, tt, (x, tt), (v ∷ [], tt)), tt))) (qed 𝓛 (‵ ((row P).own x (v ∷ [])) ∷ []) ∵ nothing ! $ move ! (1 ∷ 0 ∷ []) $ fjoin ! $ nothing ! $ join ! $ use0 𝓛 (raw (asks.clause 𝓤 x)) (asks.met 𝓤 x ok) $ move ! (1 ∷ 0 ∷ []) $ done !) $
+        use1 𝓛 (raw ((Takes1 𝓛).pre ((tt, tt, tt, (x, tt), (v ∷ [], tt)), tt))) (qed 𝓛 (‵ ((row P).own_val x (v ∷ [])) ∷ []) ∵ nothing ! $ move ! (1 ∷ 0 ∷ []) $ fjoin ! $ nothing ! $ join ! $ use0 𝓛 (raw (asks.clause 𝓤 x)) (asks.met 𝓤 x ok) $ move ! (1 ∷ 0 ∷ []) $ done !) $
         calls_at k fm (Takes1 𝓛) known ((tt, tt, tt, (x, tt), (v ∷ [], tt)), tt) os (λ w.
-        use1 𝓛 (later (some (λ (r : D Q). (‵ ftrue ⊛ ‵ ((row Q).own r (w ∷ []))) ⊛ raw (ensured 𝓛 ended1 (clauses1 𝓤) tt (x, tt) tt r)))) (id⊢ 𝓤 _) $ await k tt $ pick k (λ r.
+        use1 𝓛 (later (some (λ (r : D Q). (‵ ftrue ⊛ ‵ ((row Q).own_val r (w ∷ []))) ⊛ raw (ensured 𝓛 ended1 (clauses1 𝓤) tt (x, tt) tt r)))) (id⊢ 𝓤 _) $ await k tt $ pick k (λ r.
         split k $ move k (1 ∷ []) $ use1 𝓛 (raw (fact 𝓤 (r ≡ f x))) (ex_e 𝓤 _ (λ ws. snd∗ 𝓤 (sem 𝓛 (lasts ended1 tt (x, tt) ws)) (fact 𝓤 (r ≡ f x)))) $
         heard k (r ≡ f x) (λ e. split k $ drop k $ peeks k (row Q) (Is (row Q)) (shows 𝓛 (row Q)) r (w ∷ []) (λ now-is. drop k $ then r w now-is e))))
 
@@ -102,7 +102,7 @@ module _ (P₁ P₂ Q : Kind) (asks : Asks (D P₁ × D P₂)) (f : D P₁ → D
   abbrev pub Takes2 : {M : Type 1} {𝓤 : Ura M} (𝓛 : Logic 𝓤) → Contract 𝓤
   Takes2 {𝓤 = 𝓤} 𝓛 = triple_of 𝓛 ended2.signature (closing 𝓛 ended2 (clauses2 𝓤))
 
-  module _ {M : Type 1} {𝓤 : Ura M} {𝓛 : Logic 𝓤} {K : Type 0} {Γ : List (Item 𝓤)} {E : Env 𝓤 𝓛.H} {C : Calls 𝓤 𝓛.H} {g : Name} {xs : List Operand} {Λ : Loops 𝓤 𝓛.H} {q : After 𝓤 𝓛.H} {d : Place} {rest : Code} where
+  module _ {M : Type 1} {𝓤 : Ura M} {𝓛 : Logic 𝓤} {K : Type 0} {Γ : List (Item 𝓤)} {E : Env 𝓤 𝓛.H} {C : Calls 𝓤 𝓛.H} {g : Callee} {xs : List Operand} {Λ : Loops 𝓤 𝓛.H} {q : After 𝓤 𝓛.H} {d : Place} {rest : Code} where
     open 𝓛 use {H}
 
     pub calls2 : K → FmC 𝓤 H 𝓛.laws C → Triple 𝓤 (C g) (Takes2 𝓛) → (x : D P₁) (v : Val) → Has P₁ x v → (y : D P₂) (u : Val) → Has P₂ y u → asks.that (x, y) → Opds K 𝓛 (raw ((Takes2 𝓛).pre ((tt, tt, tt, (x, (y, tt)), (v ∷ [], (u ∷ [], tt))), tt)) ∷ Γ) E xs (v ∷ u ∷ [])
@@ -110,8 +110,8 @@ module _ (P₁ P₂ Q : Kind) (asks : Asks (D P₁ × D P₂)) (f : D P₁ → D
     calls2 k fm known x v is y u too ok os then =
         owned k (row P₂) (Is (row P₂)) (LL.makes P₂.type P₂.plainly 𝓛) y (u ∷ []) too $ owned k (row P₁) (Is (row P₁)) (LL.makes P₁.type P₁.plainly 𝓛) x (v ∷ []) is $
         use2 𝓛 (raw ((Takes2 𝓛).pre ((tt, tt, tt, (x, (y, tt)), (v ∷ [], (u ∷ [], tt))), tt)))
-        (qed 𝓛 (‵ ((row P₁).own x (v ∷ [])) ∷ ‵ ((row P₂).own y (u ∷ [])) ∷ []) ∵ nothing ! $ move ! (2 ∷ 0 ∷ []) $ fjoin ! $ move ! (1 ∷ 0 ∷ []) $ fjoin ! $ nothing ! $ join ! $ use0 𝓛 (raw (asks.clause 𝓤 (x, y))) (asks.met 𝓤 (x, y) ok) $ move ! (1 ∷ 0 ∷ []) $ done !) $
+        (qed 𝓛 (‵ ((row P₁).own_val x (v ∷ [])) ∷ ‵ ((row P₂).own_val y (u ∷ [])) ∷ []) ∵ nothing ! $ move ! (2 ∷ 0 ∷ []) $ fjoin ! $ move ! (1 ∷ 0 ∷ []) $ fjoin ! $ nothing ! $ join ! $ use0 𝓛 (raw (asks.clause 𝓤 (x, y))) (asks.met 𝓤 (x, y) ok) $ move ! (1 ∷ 0 ∷ []) $ done !) $
         calls_at k fm (Takes2 𝓛) known ((tt, tt, tt, (x, (y, tt)), (v ∷ [], (u ∷ [], tt))), tt) os (λ w.
-        use1 𝓛 (later (some (λ (r : D Q). (‵ ftrue ⊛ ‵ ((row Q).own r (w ∷ []))) ⊛ raw (ensured 𝓛 ended2 (clauses2 𝓤) tt (x, (y, tt)) tt r)))) (id⊢ 𝓤 _) $ await k tt $ pick k (λ r.
+        use1 𝓛 (later (some (λ (r : D Q). (‵ ftrue ⊛ ‵ ((row Q).own_val r (w ∷ []))) ⊛ raw (ensured 𝓛 ended2 (clauses2 𝓤) tt (x, (y, tt)) tt r)))) (id⊢ 𝓤 _) $ await k tt $ pick k (λ r.
         split k $ move k (1 ∷ []) $ use1 𝓛 (raw (fact 𝓤 (r ≡ f x y))) (ex_e 𝓤 _ (λ ws. snd∗ 𝓤 (sem 𝓛 (lasts ended2 tt (x, (y, tt)) ws)) (fact 𝓤 (r ≡ f x y)))) $
         heard k (r ≡ f x y) (λ e. split k $ drop k $ peeks k (row Q) (Is (row Q)) (shows 𝓛 (row Q)) r (w ∷ []) (λ now-is. drop k $ then r w now-is e))))

@@ -1,6 +1,6 @@
 -- The walk of
 --     fn f(mut r: S) -> S { g(&mut r); r }
--- for any struct S of plain data, where g takes a `&mut S` and its contract says `now r.exit ≡ G (now r.entry)`. f's says `x ≡ G r`, so whoever calls f needs no walk.
+-- for any struct S of plain data, where g takes a `&mut S` and its contract says `r.new ≡ G r.old`. f's says `x ≡ G r`, so whoever calls f needs no walk.
 --     function     f's MIR: a crate's own is this one by computation
 --     meets        f's contract holds of it
 -- The struct's copy in memory is lent for a lifetime that the walk makes, and is taken back, with its last value, once g has returned. Assumes nothing.
@@ -8,9 +8,9 @@ use mathlib.Core.Path.{◌≡◌, refl}
 use Prim.Native.Nat.{ℕ}
 use mathlib.Core.List.{List, [], ◌∷◌}
 use seplogic.Ra.Ura.{Ura}
-use seplogic.Ra.TreeShare.{full_share}
+use base.Fraction.{full_share}
 use mir.Raw.{raw as raw_ty}
-use mir.Syntax.{Name, Fn, named, erased, mut, ty_unit, ty_ref, place, copy, local, value_local, memory_slot, seq, assign, call, return, rv_opd, addr_of}
+use mir.Syntax.{Callee, Fn, named, erased, mut, ty_unit, ty_ref, place, copy, local, value_local, memory_slot, seq, assign, call, return, rv_opd, addr_of}
 use mir.Val.{Val, vptr}
 use base.Logic.{SProp, ent, emp, via, fst∗, id⊢}
 use base.Fml.{GName, Fml, ftrue, fat, fsep, flft, flent}
@@ -42,12 +42,14 @@ use denote.Triple.Clauses.{Clauses, Ended, closing, ensured, lasts}
 use Rattle.walks.proofs.Records.{Kind, row, ty, D, Has, typed_as}
 use Rattle.walks.proofs.InPlace as in_place
 
-module _ (S : Kind) (G : D S → D S) (#g : Name) where
+module _ (S : Kind) (G : D S → D S) (#g : Callee) where
   -- the locals: the result, r, r in memory, the unit, and a reference to what is in memory
   abbrev pub function : Fn
   function = record {
     lifetimes = 0;
     outlives = [];
+    ty_params = [];
+    givens = 0;
     params = 1;
     locals = local (ty S) value_local ∷ local (ty S) value_local ∷ local (ty S) memory_slot ∷ local ty_unit value_local ∷ local (ty_ref erased mut (pointee (row S).written)) value_local ∷ [];
     body = seq (assign (place 2 []) (rv_opd (copy (place 1 []))))
@@ -117,7 +119,7 @@ module _ (S : Kind) (G : D S → D S) (#g : Name) where
           assigns ! (addr ! (from ! (stop !))) (from ! (stop !)) (init ! 0 refl (tt, tt)) $
           -- the struct's cell and what it owns are the struct in memory
           move ! (11 ∷ []) $ fsplit ! $ move ! (6 ∷ 0 ∷ []) $ use1 𝓛 (‵ (fat full_share (raw_ty (ty S)) l₂ 0 (val h))) (𝓛.laws.at_raw full_share (ty S) l₂ 0 (val h)) $ fjoin ! $
-          fpack ! (List Val) (λ us. fsep (cell_at full_share (row S).mir us l₂ 0) ((row S).own h us)) (val h ∷ []) $
+          fpack ! (List Val) (λ us. fsep (cell_at full_share (row S).mir us l₂ 0) ((row S).own_val h us)) (val h ∷ []) $
           lft_new ! tt (λ α. move ! (1 ∷ []) $
           use1 𝓛 (later (some (λ (γ : GName). ‵ (Own l₂ α γ) ⊛ ‵ (flent (α ∷ []) (Body (mem (row S)) l₂ 0 γ))))) (lends_ref 𝓛 (row S) (named 0) (α ∷ []) h l₂ 0) $ await ! tt $ pick ! (λ γ. split ! $
           move ! (0 ∷ 2 ∷ []) $ use2 𝓛 (raw ((Takes 𝓛).pre (to_g l₂ α γ))) (goes_in l₂ α γ) $
@@ -125,7 +127,7 @@ module _ (S : Kind) (G : D S → D S) (#g : Name) where
           calls_at ! (fm_of 𝓤 H 𝓛.laws 𝓣) (Takes 𝓛) known (to_g l₂ α γ) (and_then ! (load ! (from ! (stop !)) (look ! 3 refl)) (no_more !)) (λ w.
           use1 𝓛 (later (some (λ (u : Unit {0}). ((‵ (flft (α ∷ []) full_share) ⊛ ‵ ftrue) ⊛ ‵ (unitRow.own_val u (w ∷ []))) ⊛ raw (ensured 𝓛 lent (in_place.spec S G #g 𝓤) (α ∷ [], tt) (s l₂ α γ, tt) tt u)))) (id⊢ 𝓤 _) $ await ! tt $ pick ! (λ u.
           split ! $ move ! (1 ∷ []) $ use1 𝓛 (some (λ (ws : D S × Unit {0}). ‵ (lasts lent (α ∷ [], tt) (s l₂ α γ, tt) ws) ⊛ raw (fact 𝓤 (ws.0 ≡ G h)))) (id⊢ 𝓤 _) $ pick ! (λ ws.
-          split ! $ move ! (1 ∷ []) $ heard ! (ws.0 ≡ G h) (λ e. fsplit ! $ move ! (2 ∷ []) $ split ! $ move ! (1 ∷ []) $
+          split ! $ move ! (1 ∷ []) $ heard ! (ws.0 ≡ G h) (λ e. fsplit ! $ fsplit ! $ move ! (1 ∷ []) $ drop ! $ move ! (2 ∷ []) $ split ! $ move ! (1 ∷ []) $
           -- [what the unit owns; the token; the last value; true; what is lent; true; _4; …; _3; …; that _2 dies; _1; …; _0; …; true]
           peeks ! unitRow (Is unitRow) (shows 𝓛 unitRow) u (w ∷ []) (λ is. land ! (from ! (stop !)) (init ! 8 refl ((Nothing-Lawful 𝓛).typed u (w ∷ []) is).0) $
           drop ! $ split ! $ lft_end ! tt $ move ! (0 ∷ 4 ∷ 2 ∷ []) $ use3 𝓛 (later (‵ ((mem (row S)).own_at ws.0 l₂ 0))) (ref_back 𝓛 (row S) (α ∷ []) γ ws.0 l₂ 0) $ await ! tt $
