@@ -1,3 +1,4 @@
+pub mod Turns
 pub mod Records
 pub mod InPlace
 pub mod Each
