@@ -37,7 +37,7 @@ pub struct Dispatcher {
 }
 
 // What the calls work on: a dispatcher with the rows and the channel table that it is lent.
-#[derive(Drop)]
+#[derive(Clone, Copy)]
 pub struct Desk {
     pub dispatcher: Dispatcher,
     pub rows: Rows,

@@ -25,7 +25,7 @@ pub use fresh::start;
 pub use reading::read_record;
 
 // What an operation comes to: what its line shows, and the desk afterwards.
-#[derive(Drop)]
+#[derive(Clone, Copy)]
 pub struct Outcome {
     pub shown: Shown,
     pub desk: Desk,
@@ -58,7 +58,7 @@ impl StepAnswer {
 }
 
 // `used` bytes of the script were read, the operation was `op`, and its line shows `shown`; a refused step reads none, and shows its fault.
-#[derive(Drop)]
+#[derive(Clone, Copy)]
 pub struct Stepped {
     pub answer: StepAnswer,
     pub used: usize,

@@ -13,7 +13,7 @@ use laws::refusals;
 use line::Written;
 
 // `used` bytes of the script were read, and `at` is the buffer's first free place; a refused record leaves both, and the desk.
-#[derive(Drop)]
+#[derive(Clone, Copy)]
 pub struct Told {
     pub answer: StepAnswer,
     pub used: usize,

@@ -18,7 +18,7 @@ pub mod inner;
 pub const MOST: usize = 65536;
 
 // How far a script has been answered: `done` records end at `offset`.
-#[derive(Drop)]
+#[derive(Clone, Copy)]
 pub struct Place {
     pub offset: usize,
     pub done: u64,
@@ -27,7 +27,7 @@ pub struct Place {
 
 // What a call came to: the buffer's first `at` bytes are the next part of the text. `Took` says that it is the last part, `NoRoom` that the
 // next line has no room after it: go on at `place` with another buffer.
-#[derive(Drop)]
+#[derive(Clone, Copy)]
 pub struct Part {
     pub answer: StepAnswer,
     pub at: usize,

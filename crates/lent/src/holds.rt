@@ -8,7 +8,7 @@ use ipc_rules::answers::{RegisterAnswer, Registering};
 use ipc_rules::state::Table;
 
 // The table with what was registered so far; an unsound one is left as it is.
-#[derive(Drop)]
+#[derive(Clone, Copy)]
 struct Holding {
     sound: bool,
     table: Table,

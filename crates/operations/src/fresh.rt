@@ -8,7 +8,7 @@ use ipc_rules::answers::NewAnswer;
 use ipc_rules::state::Sizes;
 
 // Tables that nothing happened to, and whether the channel table has the sizes asked for.
-#[derive(Drop)]
+#[derive(Clone, Copy)]
 pub struct Fresh {
     pub answer: NewAnswer,
     pub tables: Tables,

@@ -23,7 +23,7 @@ use shown::Shown;
 use taskcap::Table as Tasks;
 
 // Everything that the log's operations change.
-#[derive(Drop)]
+#[derive(Clone, Copy)]
 pub struct Tables {
     pub channels: Channels,
     pub rows: Rows,
@@ -31,7 +31,7 @@ pub struct Tables {
     pub irqs: Irqs,
 }
 
-#[derive(Drop)]
+#[derive(Clone, Copy)]
 pub struct Outcome {
     pub shown: Shown,
     pub tables: Tables,

@@ -1,12 +1,12 @@
 -- The ways of a replay over a lent buffer: a place that is refused, a log that is too long, no room, the last line. Assumes nothing.
 use mathlib.Core.Path.{◌≡◌, refl}
-use mathlib.Core.Bool.{Bool, true, false, ◌&&◌, not}
+use mathlib.Core.Bool.{Bool, true, false, ◌&&◌}
 use mathlib.Core.List.{List, ◌++◌}
 use Prim.Native.Nat.{ℕ, zero, suc, ◌+◌, ◌-◌, ◌<◌, ◌≤◌}
 use native.Mathlib.Omega.{arith}
 use lib.Dec.{leb}
 use lib.ListN.{length, take, drop}
-use borrow.Author.Tests.{lt-ltb, le-ltb, eq-eqb, ne_eqb, not-true, not-false, leb-true}
+use borrow.Author.Tests.{lt-ltb, le-ltb, eq-eqb, ne_eqb, leb-true}
 use Rattle.laws.specs.Pick.{pick}
 use Rattle.laws.specs.Refusals as no
 use Rattle.laws.proofs.Cases.{all_pick}
@@ -67,7 +67,7 @@ run_within all (suc k) rest done out at t =
 pub ran_within : (log : List ℕ) (before : ℕ) (out : List ℕ) (t : Tables) {r : Ran} → r ≡ (run_of log before out t).answer → r.offset ≤ length log
 ran_within log before out t e = rw e (run_within (length log) (length log) log before out 0 t)
 
--- ---- the calls: q is what the soundness test answered, and the code asks whether the place does not fit
+-- ---- the calls: q is what the soundness test answered
 module _ (log out : List ℕ) (p : Place) (q : Bool) (es : q ≡ sound_test p.tables.channels) where
   abbrev placed : Bool
   placed = leb p.offset (length log) && leb p.done p.offset
@@ -75,22 +75,22 @@ module _ (log out : List ℕ) (p : Place) (q : Bool) (es : q ≡ sound_test p.ta
   abbrev tested : Bool
   tested = placed && q
 
-  pub refuses : not tested ≡ true → (◌≡◌ {A = Part} (record { answer = BadTable; at = 0; place = p }) (replay_of log out p).part) × (out ≡ (replay_of log out p).buffer)
+  pub refuses : tested ≡ false → (◌≡◌ {A = Part} (record { answer = BadTable; at = 0; place = p }) (replay_of log out p).part) × (out ≡ (replay_of log out p).buffer)
   unfolding replay_of pick
-  refuses e = let h : place_fits log p ≡ false = rw (← es) (not-true tested e) in (rw h refl, rw h refl)
+  refuses e = let h : place_fits log p ≡ false = rw (← es) e in (rw h refl, rw h refl)
 
-  module _ (e : not tested ≡ false) where
+  module _ (e : tested ≡ true) where
     fits : place_fits log p ≡ true
-    fits = rw (← es) (not-false tested e)
+    fits = rw (← es) e
 
     pub inside : p.offset ≤ length log
-    inside = leb-true _ _ (and_left _ (leb p.done p.offset) (and_left placed q (not-false tested e)))
+    inside = leb-true _ _ (and_left _ (leb p.done p.offset) (and_left placed q e))
 
     pub counted : p.done ≤ p.offset
-    counted = leb-true _ _ (and_right (leb p.offset (length log)) _ (and_left placed q (not-false tested e)))
+    counted = leb-true _ _ (and_right (leb p.offset (length log)) _ (and_left placed q e))
 
     pub sound_test_lem : sound_test p.tables.channels ≡ true
-    sound_test_lem = rw (← es) (and_right placed q (not-false tested e))
+    sound_test_lem = rw (← es) (and_right placed q e)
 
     pub too_long : {r : Part} {left : List ℕ} → most < length log → r ≡ (last_of out 0 no.too_long most p).part → left ≡ (last_of out 0 no.too_long most p).buffer
         → (r ≡ (replay_of log out p).part) × (left ≡ (replay_of log out p).buffer)

@@ -43,7 +43,7 @@ impl StepAnswer {
 }
 
 // `used` bytes of the log were read, and `at` is the buffer's first free place; a refused step reads none and leaves it.
-#[derive(Drop)]
+#[derive(Clone, Copy)]
 pub struct Stepped {
     pub answer: StepAnswer,
     pub used: usize,
@@ -53,7 +53,7 @@ pub struct Stepped {
 
 // How a run ended: `Took` where nothing of the log is left, else the fault, at `offset`. `done` records were taken in all, and `at` is the
 // buffer's first free place.
-#[derive(Drop)]
+#[derive(Clone, Copy)]
 pub struct Ran {
     pub answer: StepAnswer,
     pub offset: usize,
