@@ -6,4 +6,4 @@ use Rattle.jobscript.proofs.jobs.op_open.Goals as goal
 pub returns : goal.returns
 unfolding open_done
 returns c = rw (← c.index_at-extractor.ensures, ← c.tag_at-tag.ensures)
-    (packs after_open c.«open».ensures c.shown.ensures)
+    (packs after_open c.open-opened.ensures c.shown.ensures)

@@ -8,3 +8,7 @@ use Rattle.jobscript.proofs.lengths.operand_length.Goals as goal
 pub overflow_cast-result : goal.overflow_cast-result
 unfolding length_of lengths
 overflow_cast-result c = omega (arith, operands_few c.args.op (search rules))
+
+pub returns : goal.returns
+unfolding length_of lengths
+returns c = search rules
