@@ -15,6 +15,8 @@ infixr 5 ◌▸◌
 pub along : {A B : Type 0} (R : ℕ → A → B → Type 0) (n : ℕ) (l : List A) (m : List B) (d : A) (e : B) → Along R n l m → ((j : ℕ) → R j d e) →
     (i : ℕ) → R (n + i) (get_or l i d) (get_or m i e)
 along R n [] [] d e end h i = h (n + i)
+along R n [] (b ∷ m) d e x h i = elim x [ ]
+along R n (a ∷ l) [] d e x h i = elim x [ ]
 along R n (a ∷ l) (b ∷ m) d e (x ▸ xs) h zero = let z : n + 0 ≡ n = omega arith in rw z x
 along R n (a ∷ l) (b ∷ m) d e (x ▸ xs) h (suc i) = let z : n + suc i ≡ suc n + i = omega arith in rw z (along R (suc n) l m d e xs h i)
 

@@ -12,6 +12,7 @@ use Rattle.ipc_rules.specs.State.{nobody}
 use Rattle.ipc_rules.specs.Sound.{Sound}
 use Rattle.ipc_rules.specs.declared.state.Channel.{Channel}
 use Rattle.history.specs.Calls.{create, Answer, sent, received, parked, registered, answer, after}
+use Rattle.history.specs.Calls as call
 use Rattle.history.specs.World.{World, on_creation, step, answers, Reached}
 use Rattle.history.specs.Ids.{Makes}
 use Rattle.history.specs.Idle.{FreshCreates, Sentence, exchange, exchanged, MessagesCome, Wait, waits, waited, WaitersNamed, HeldWaitersNamed}
@@ -39,7 +40,7 @@ exchange_stands v k ids b n [] s = refl
 exchange_stands v k ids b n (x ∷ xs) s =
     let p = send_stands x.parts x.row x.sender s in
     let q = recv_stands p.1 in
-    next (ap sent p.0) (next (ap received q.0) (exchange_stands _ k ids b n xs q.1))
+    next (ap sent p.0) (next (ap received q.0) (exchange_stands (step (step v (call.send ids.send x.parts x.row)) (call.receive ids.recv)) k ids b n xs q.1))
 
 waits_stands : (v : World) (k : ℕ) (ids : Channel) (b : Bool) (n : ℕ) (xs : List Wait) → (b ≡ true → 0 < n) →
     Stands v.table k ids b n [] nobody → answers v (waits ids xs) ≡ waited xs
@@ -49,7 +50,7 @@ waits_stands v k ids b n (x ∷ xs) held s =
     let p = park_stands x.task held s in
     let q = send_stands x.sentence.parts x.sentence.row x.sentence.sender p.1 in
     let r = given_stands x.task q.1 in
-    next (ap parked p.0) (next (ap sent q.0) (next (ap parked r.0) (waits_stands _ k ids b n xs held r.1)))
+    next (ap parked p.0) (next (ap sent q.0) (next (ap parked r.0) (waits_stands (step (step (step v (call.park ids.recv x.task)) (call.send ids.send x.sentence.parts x.sentence.row)) (call.park ids.recv x.task)) k ids b n xs held r.1)))
 
 -- ---- a channel that was just made
 record Begins (w : World) (b : Bool) (ids : Channel) : Type 0 where

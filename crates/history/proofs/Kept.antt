@@ -77,4 +77,4 @@ reached_sound (then {w} r c) = step_sound w c (reached_sound r)
 pub reached_run : {w : World} → Reached w → (cs : List Call) → Reached (run w cs)
 unfolding run
 reached_run r [] = r
-reached_run r (c ∷ cs) = reached_run (then r c) cs
+reached_run {w = w} r (c ∷ cs) = reached_run {w = step w c} (then r c) cs

@@ -155,6 +155,7 @@ module _ (log : List ℕ) (t : Tables) where
     where
       by : (k : ℕ) (x : TaskId) → Told t.channels k x (send (id_at log 3) (payload_at log 7) (byte_at log 27)) → Says (2 ∷ (send_done log t).number ∷ (send_done log t).values) k x
       by k x (inl (by_send e)) = inl (send_line (ap (λ a. 2 ∷ number_of a ∷ reasoned (why_of t.channels (id_at log 3) Send) (number_of a) (values_of a)) e))
+      by k x (inr x') = elim x' [ ]
 
   revokes : NamerAt 6 (revoke_done log t) (revoke (id_at log 3) ∷ [])
   unfolding revoke_done answer waiter_values pick
@@ -162,6 +163,7 @@ module _ (log : List ℕ) (t : Tables) where
     where
       by : (k : ℕ) (x : TaskId) → Told t.channels k x (revoke (id_at log 3)) → Says (6 ∷ (revoke_done log t).number ∷ (revoke_done log t).values) k x
       by k x (inl (by_revocation e)) = inl (revoke_line (ap (λ a. 6 ∷ number_of a ∷ values_of a) e))
+      by k x (inr x') = elim x' [ ]
 
   releases : NamerAt 8 (release_done log t) (releasing (list_slots log 3) ∷ [])
   unfolding release_done answer
@@ -169,12 +171,14 @@ module _ (log : List ℕ) (t : Tables) where
     where
       by : (k : ℕ) (x : TaskId) → Told t.channels k x (releasing (list_slots log 3)) → Says (8 ∷ (release_done log t).number ∷ (release_done log t).values) k x
       by k x (inl (by_release ws e g)) = inl (release_line ws (ap (λ a. 8 ∷ number_of a ∷ values_of a) e) g)
+      by k x (inr x') = elim x' [ ]
 
   clears_it : NamerAt 10 (clear_done log t) (clear (task_at log 3) ∷ [])
   unfolding clear_done clear_of
   clears_it = one _ _ (λ w n k x _. by k x)
     where
       by : (k : ℕ) (x : TaskId) → Told t.channels k x (clear (task_at log 3)) → Says (10 ∷ (clear_done log t).number ∷ (clear_done log t).values) k x
+      by k x (inl x') = elim x' [ ]
       by k x (inr clears) = inr (record { task = refl; count = _; shows = refl })
 
   -- ---- the joined steps
@@ -191,6 +195,7 @@ module _ (log : List ℕ) (t : Tables) where
 
     spawned_named : spawned.answer ≡ spawning.TheVariants.Spawned → (k : ℕ) (x : TaskId) → Told t.channels k x (releasing row) → Says (24 ∷ (spawn_done log t).number ∷ (spawn_done log t).values) k x
     unfolding spawn_done
+    spawned_named q k x (inr x') = elim x' [ ]
     spawned_named q k x (inl (by_release ws e g)) =
         let told = ((joined_tell t.channels t.rows shape).spawn (byte_at log 3) (list_words log 4) q).first in
         let same : spawned.waiters ≡ ws = cc in
@@ -207,6 +212,7 @@ module _ (log : List ℕ) (t : Tables) where
 
     left_named : left.answer ≡ Left → (k : ℕ) (x : TaskId) → Told t.channels k x (releasing row) → Says (25 ∷ (leave_done log t).number ∷ (leave_done log t).values) k x
     unfolding leave_done
+    left_named q k x (inr x') = elim x' [ ]
     left_named q k x (inl (by_release ws e g)) =
         let told = (joined_tell t.channels t.rows shape).leave (byte_at log 3) q in
         let same : left.waiters ≡ ws = cc in

@@ -1,10 +1,10 @@
 -- The next part of a script's text, by what the tests before it say. Assumes nothing.
 use mathlib.Core.Path.{◌≡◌, refl, sym, ap, ◌∙◌}
-use mathlib.Core.Bool.{Bool, true, false, not, ◌&&◌}
+use mathlib.Core.Bool.{Bool, true, false, ◌&&◌}
 use mathlib.Core.List.{List}
 use Prim.Native.Nat.{ℕ, ◌-◌, ◌<◌, ◌≤◌}
 use native.Mathlib.Omega.{arith}
-use borrow.Author.Tests.{lt-ltb, le-ltb, leb-true, not-true, not-false}
+use borrow.Author.Tests.{lt-ltb, le-ltb, leb-true}
 use lib.Dec.{leb}
 use lib.ListN.{length, take, drop}
 use Rattle.laws.specs.Pick.{pick}
@@ -29,22 +29,22 @@ module _ (script out : List ℕ) (p : Place) (q : Bool) (e : q ≡ ready_test p.
   abbrev Gives : Part → List ℕ → Type 0
   Gives r left = (r ≡ part_at 0 (answer_of script (length out) p)) × (left ≡ written out 0 (answer_of script (length out) p).text)
 
-  pub misplaced : not test ≡ true → Gives (record { answer = BadTable; at = 0; place = p }) out
+  pub misplaced : test ≡ false → Gives (record { answer = BadTable; at = 0; place = p }) out
   unfolding answer_of pick
   misplaced n =
-      let f : place_fits script p ≡ false = sym same ∙ not-true test n in
+      let f : place_fits script p ≡ false = sym same ∙ n in
       (rw f refl, rw f (nothing_written out 0 (omega arith)))
 
   -- a place that passed the test
-  module _ (n : not test ≡ false) where
+  module _ (n : test ≡ true) where
     fits : place_fits script p ≡ true
-    fits = sym same ∙ not-false test n
+    fits = sym same ∙ n
 
     pub desk_ready : q ≡ true
-    desk_ready = and_right (leb p.offset (length script) && leb p.done p.offset) q (not-false test n)
+    desk_ready = and_right (leb p.offset (length script) && leb p.done p.offset) q n
 
     both : leb p.offset (length script) && leb p.done p.offset ≡ true
-    both = and_left (leb p.offset (length script) && leb p.done p.offset) q (not-false test n)
+    both = and_left (leb p.offset (length script) && leb p.done p.offset) q n
 
     pub offset_inside : p.offset ≤ length script
     offset_inside = leb-true _ _ (and_left (leb p.offset (length script)) (leb p.done p.offset) both)

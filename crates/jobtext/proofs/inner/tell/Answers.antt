@@ -1,0 +1,34 @@
+-- `jobtext::inner::tell` meets its contract. Assumes nothing.
+use mathlib.Core.Path.{sym, ◌∙◌}
+use Prim.Native.Nat.{◌<◌, ◌^◌}
+use native.Mathlib.Omega.{arith}
+use lib.ListN.{length}
+use Rattle.line.proofs.Room.{lent_within}
+use Rattle.jobtext.proofs.Tells.{fault_told, line_told, crowded_told}
+use Rattle.jobtext.proofs.inner.tell.Goals as goal
+
+pub step-s-requires : goal.step-s-requires
+step-s-requires c = c.requires.0
+
+pub returns-then-number-ne-NONE-clause-answer : goal.returns-then-number-ne-NONE-clause-answer
+returns-then-number-ne-NONE-clause-answer c = (fault_told _ c.args.number _ _ _ c.requires.1 _ c.step-s.ensures (λ z. c.if-number-ne-NONE.true (c.number.ensures ∙ z))).0
+
+pub returns-then-number-ne-NONE-clause-buffer : goal.returns-then-number-ne-NONE-clause-buffer
+returns-then-number-ne-NONE-clause-buffer c = (fault_told _ c.args.number _ _ _ c.requires.1 _ c.step-s.ensures (λ z. c.if-number-ne-NONE.true (c.number.ensures ∙ z))).1
+
+pub overflow_add-result : goal.overflow_add-result
+overflow_add-result c =
+    let buffer-bounded : length c.args.out.now < 2 ^ 64 = omega arith in
+    omega (arith, buffer-bounded, lent_within c.args.out.now c.args.at _ c.requires.1 c.write_line.ensures.answer _ c.in-Upto.is)
+
+pub returns-in-Upto-clause-answer : goal.returns-in-Upto-clause-answer
+returns-in-Upto-clause-answer c = (line_told _ _ _ _ _ c.requires.1 _ c.step-s.ensures (sym c.number.ensures ∙ c.if-number-ne-NONE.false) _ _ c.write_line.ensures.answer c.write_line.ensures.buffer _ c.in-Upto.is).0
+
+pub returns-in-Upto-clause-buffer : goal.returns-in-Upto-clause-buffer
+returns-in-Upto-clause-buffer c = (line_told _ _ _ _ _ c.requires.1 _ c.step-s.ensures (sym c.number.ensures ∙ c.if-number-ne-NONE.false) _ _ c.write_line.ensures.answer c.write_line.ensures.buffer _ c.in-Upto.is).1
+
+pub returns-in-NoRoom-clause-answer : goal.returns-in-NoRoom-clause-answer
+returns-in-NoRoom-clause-answer c = (crowded_told _ _ _ _ _ c.requires.1 _ c.step-s.ensures (sym c.number.ensures ∙ c.if-number-ne-NONE.false) _ _ c.write_line.ensures.answer c.write_line.ensures.buffer c.in-NoRoom.is).0
+
+pub returns-in-NoRoom-clause-buffer : goal.returns-in-NoRoom-clause-buffer
+returns-in-NoRoom-clause-buffer c = (crowded_told _ _ _ _ _ c.requires.1 _ c.step-s.ensures (sym c.number.ensures ∙ c.if-number-ne-NONE.false) _ _ c.write_line.ensures.answer c.write_line.ensures.buffer c.in-NoRoom.is).1
