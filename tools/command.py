@@ -15,7 +15,7 @@ RUN = os.path.join(TOP, "tools", "run")
 FAILED, FAULT, BROKEN, INTERRUPTED = 1, 2, 3, 130
 HELP = """{own}
 
-target/bin/{name} plays the {plays}; rt check {name} proves and builds it first where it is missing or a source has changed. On a processor
+crates/{name}/out/{name} plays the {plays}; rt proves and builds it first where it is missing or a source has changed. On a processor
 other than x86-64 it runs under an emulator (tools/run). {variable} is another command to run in its place.
 
 Status: 0 the {plays} was read to its end (`end`); 2 it has a fault or is too long (`bad`); 1 nothing was played: the words, the FILE or the
@@ -146,8 +146,8 @@ def program(name, does):
     if wrong:
         tell("\n".join(wrong))
         on_rust = f"{variable}='tools/oracle {name}' {does} on the Rust"
-        raise Failure(f"rt check {name} failed, and target/log has what it said; {on_rust}")
-    return [RUN, os.path.join(TOP, "target", "bin", name)]
+        raise Failure(f"{name} is not built, and target/log has what rt said; {on_rust}")
+    return [RUN, building.program(TOP, name)]
 
 
 def played(words, content):

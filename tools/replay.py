@@ -16,7 +16,7 @@ a line, what follows a # is a comment) where its first byte that is no blank is 
 stands before it. Else it is a log's bytes: these start with 4B 43, which as text is "KC" and neither. Of bytes the first 65,537 are read, which is
 enough to know a log that is too long, and of text 4,194,304 bytes at most, comments and all. docs/LOG.md has the format and the words.
 
-The tables are those of the program target/bin/dump, or of the command DUMP.
+The tables are those of the program crates/dump/out/dump, or of the command DUMP.
 """
 import os
 import re
