@@ -16,13 +16,13 @@ use Rattle.isolation.proofs.Flows.{Flows, call_flows}
 use Rattle.isolation.proofs.Kept.{Kept}
 use Rattle.isolation.proofs.Reaches.{after_kept}
 
-pub along : (w : Desk) → Kept w → (p k : ℕ) → OpenIn w p → opening_of w.channels (job_in w p).ends.send send_right ≡ Opens k →
+through : (p k : ℕ) (w : Desk) → Kept w → OpenIn w p → opening_of w.channels (job_in w p).ends.send send_right ≡ Opens k →
     {cs : List JobCall} → Spares p cs → Flows w p k (run w cs) (all_handed w p cs) (all_accepted w p cs)
 unfolding run all_handed all_accepted
-along w κ p k o h none = record { job = refl; opens = h; order = sym (append-nil _) }
-along w κ p k o h (more {c = c} {cs = cs} e s) =
+through p k w κ o h none = record { job = refl; opens = h; order = sym (append-nil _) }
+through p k w κ o h (more {c = c} {cs = cs} e s) =
     let f = call_flows w κ p k o h c e in
-    let a = along (after w c) (after_kept w κ c) p k (rw f.job o) (rw f.job f.opens) s in
+    let a = through p k (after w c) (after_kept w κ c) (rw f.job o) (rw f.job f.opens) s in
     record {
       job = a.job ∙ f.job;
       opens = ap (λ (j : Job). opening_of (run (after w c) cs).channels j.ends.send send_right) (sym f.job) ∙ a.opens;
@@ -33,6 +33,10 @@ along w κ p k o h (more {c = c} {cs = cs} e s) =
           ∙ ap (λ (l : List Message). l ++ all_accepted (after w c) p cs) f.order
           ∙ append_assoc (queue_of w.channels k) (accepted w p c) (all_accepted (after w c) p cs);
     }
+
+pub along : (w : Desk) → Kept w → (p k : ℕ) → OpenIn w p → opening_of w.channels (job_in w p).ends.send send_right ≡ Opens k →
+    {cs : List JobCall} → Spares p cs → Flows w p k (run w cs) (all_handed w p cs) (all_accepted w p cs)
+along w κ p k o h s = through p k w κ o h s
 
 -- ---- a run in parts, and one call more
 pub run_from : (w : Desk) (cs : List JobCall) (c : JobCall) (ds : List JobCall) → run w (cs ++ (c ∷ ds)) ≡ run (after (run w cs) c) ds

@@ -84,7 +84,7 @@ run_kept w κ (c ∷ cs) = run_kept (after w c) (after_kept w κ c) cs
 pub reached_run : {w : Desk} → Reached w → (cs : List JobCall) → Reached (run w cs)
 unfolding run
 reached_run r [] = r
-reached_run r (c ∷ cs) = reached_run (then r c) cs
+reached_run {w = w} r (c ∷ cs) = reached_run {w = after w c} (then r c) cs
 
 pub all_kept : (w : Desk) → Reached w → Kept w
 all_kept w (fresh z i n vs e) = start_kept z i n vs e

@@ -52,13 +52,17 @@ module _ (w : Desk) (κ : Kept w) (p : ℕ) (mine : OpenIn w p) (x a : ℕ) (h :
   call_writes (park r s task) m i = absurd (Memᴰ.not-nil i)
 
 -- over a run that does not close the place
-pub all_written : (w : Desk) → Kept w → (p : ℕ) → OpenIn w p → (x a : ℕ) → slot_in w.rows x a ≡ holding (job_in w p).ends.send →
+written : (p : ℕ) (w : Desk) → Kept w → OpenIn w p → (x a : ℕ) → slot_in w.rows x a ≡ holding (job_in w p).ends.send →
     {cs : List JobCall} → Spares p cs → (m : Message) → Memᴰ m (all_accepted w p cs) → m.row ≡ x
 unfolding all_accepted
-all_written w κ p o x a h none m i = absurd (Memᴰ.not-nil i)
-all_written w κ p o x a h (more {c = c} {cs = cs} e s) m i =
+written p w κ o x a h none m i = absurd (Memᴰ.not-nil i)
+written p w κ o x a h (more {c = c} {cs = cs} e s) m i =
     let n = κ.own p o in
     let same : job_in (after w c) p ≡ job_in w p = (call_flows w κ p n.box o n.channel.sends c e).job in
     ⊎_elim (call_writes w κ p o x a h c m)
-    (all_written (after w c) (after_kept w κ c) p (rw same o) x a (slot_stays w κ p o x a h c e ∙ ap (λ (j : Job). holding j.ends.send) (sym same)) s m)
+    (written p (after w c) (after_kept w κ c) (rw same o) x a (slot_stays w κ p o x a h c e ∙ ap (λ (j : Job). holding j.ends.send) (sym same)) s m)
     (Memᴰ.append_cases (accepted w p c) i)
+
+pub all_written : (w : Desk) → Kept w → (p : ℕ) → OpenIn w p → (x a : ℕ) → slot_in w.rows x a ≡ holding (job_in w p).ends.send →
+    {cs : List JobCall} → Spares p cs → (m : Message) → Memᴰ m (all_accepted w p cs) → m.row ≡ x
+all_written w κ p o x a h s m i = written p w κ o x a h s m i
