@@ -9,7 +9,6 @@ use Rattle.capslots.specs.Rows.{holds_of}
 use Rattle.capslots.specs.declared.Table.{Table as Rows}
 use Rattle.capslots.proofs.Forgotten.{forgotten_first, forgotten_second}
 use Rattle.ipc_rules.specs.Sound.{Sound}
-use Rattle.ipc_rules.specs.Create.{create_of}
 use Rattle.ipc_rules.specs.declared.state.Payload.{Payload}
 use Rattle.ipc_rules.specs.declared.state.TaskId.{TaskId}
 use Rattle.ipc_rules.specs.declared.state.Table.{Table as Channels}

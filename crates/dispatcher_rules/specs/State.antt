@@ -1,5 +1,5 @@
 -- A dispatcher's parts as when fresh, what stands at a place of it, and how a place is written anew.
-use Rattle.std.specs.Prelude.{Bool, true, false, List, [], ◌∷◌, ℕ, get_or, set, replicate}
+use Rattle.std.specs.Prelude.{true, false, List, [], ◌∷◌, ℕ, get_or, set, replicate}
 use Rattle.ipc_rules.specs.declared.state.Channel.{Channel}
 use Rattle.dispatcher_rules.specs.declared.state.Tag.{Tag}
 use Rattle.dispatcher_rules.specs.declared.state.Variant.{Variant}

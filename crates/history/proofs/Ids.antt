@@ -24,7 +24,7 @@ use Rattle.history.specs.Calls.{Call, create, answer}
 use Rattle.history.specs.World.{World, step, run, Reached}
 use Rattle.history.specs.Channels.{LivesIn}
 use Rattle.history.specs.Ids.{Makes, IdOf, OpensOnly, IdsKeep, OneMailbox, OpensNow, IdsOpen}
-use Rattle.history.proofs.Steps.{Births, births, create_births}
+use Rattle.history.proofs.Steps.{Births, create_births}
 use Rattle.history.proofs.Tidy.{gen_of, Tidy, Since, births_issues, step_grows, run_grows, reached_tidy, one_mailbox}
 use Rattle.history.proofs.Reach.{reaches}
 

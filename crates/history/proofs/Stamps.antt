@@ -28,7 +28,7 @@ use Rattle.history.specs.Calls.{Call, create, send, receive, park, queued, revok
 use Rattle.history.specs.World.{World, step, run, start, Reached, fresh, then}
 use Rattle.history.specs.Channels.{LivesIn, on}
 use Rattle.history.specs.Traffic.{if_sent, accepted, given, revokes}
-use Rattle.history.specs.Stamps.{Stamps, by_send, OnlySends, WasSent, EachWasSent}
+use Rattle.history.specs.Stamps.{Stamps, by_send, OnlySends, EachWasSent}
 use Rattle.history.proofs.Kept.{reached_run}
 use Rattle.history.proofs.Steps.{StepWays, settles, births, step_ways}
 use Rattle.history.proofs.Tidy.{Tidy, step_grows, reached_tidy}

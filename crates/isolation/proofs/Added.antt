@@ -1,13 +1,12 @@
 -- The channel table after an opening: a channel more with one hold on it, and every other as it was. Assumes nothing.
-use mathlib.Core.Path.{◌≡◌, refl, sym, ap, ◌∙◌}
+use mathlib.Core.Path.{◌≡◌, sym, ap, ◌∙◌}
 use mathlib.Core.Bool.{true}
 use mathlib.Core.List.{[]}
-use mathlib.Core.Logic.{⊎_elim}
 use Prim.Native.Nat.{ℕ}
 use native.Mathlib.Omega.{arith}
 use Rattle.laws.specs.Pick.{pick}
-use Rattle.cap.specs.Id.{index_of, id_of}
-use Rattle.cap.specs.Rights.{send_right, receive_right}
+use Rattle.cap.specs.Id.{id_of}
+use Rattle.cap.specs.Rights.{send_right}
 use Rattle.cap.specs.Slot.{holding}
 use Rattle.cap.specs.declared.CapId.{CapId}
 use Rattle.cap.specs.declared.CapRights.{CapRights}
@@ -17,13 +16,13 @@ use Rattle.ipc_rules.specs.Opening.{opening_of, hold_of}
 use Rattle.ipc_rules.specs.Create.{create_of}
 use Rattle.ipc_rules.specs.Counts.{raised}
 use Rattle.ipc_rules.specs.Holds.{registered}
-use Rattle.ipc_rules.specs.Views.{queue_of, hold_count, Alike, Steady}
+use Rattle.ipc_rules.specs.Views.{queue_of, hold_count, Alike}
 use Rattle.ipc_rules.specs.declared.opening.Opening.TheVariants.{Opens, Shut}
 use Rattle.ipc_rules.specs.declared.state.Channel.{Channel}
 use Rattle.ipc_rules.specs.declared.state.Table.{Table as Channels}
 use Rattle.ipc_rules.specs.declared.answers.CreateAnswer.TheVariants.{Created}
 use Rattle.ipc_rules.proofs.AfterCreate.{Creates, CreateWays, no_mailbox, no_endpoint, created, create_ways}
-use Rattle.ipc_rules.proofs.AfterRegister.{Registers, RegisterWays, skipped, counted, register_ways, register_steady}
+use Rattle.ipc_rules.proofs.AfterRegister.{Registers, RegisterWays, skipped, counted, register_ways}
 use Rattle.ipc_rules.proofs.Changes.{alike_then}
 use Rattle.ipc_rules.proofs.KeepsCalls.{registered_kept}
 use Rattle.ipc_rules.proofs.KeepsCreate.{create_kept}

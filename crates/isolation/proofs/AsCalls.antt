@@ -1,10 +1,8 @@
 -- Dispatcher calls are runs of the channel table's calls, and answer as these do. Assumes nothing.
 use mathlib.Core.Path.{◌≡◌, refl, sym, ap, ◌∙◌}
 use mathlib.Core.Bool.{true}
-use mathlib.Core.List.{List, [], ◌∷◌, ◌++◌}
+use mathlib.Core.List.{List, [], ◌∷◌}
 use Prim.Native.Nat.{ℕ}
-use native.Mathlib.Omega.{arith}
-use Rattle.cap.specs.Rights.{send_right}
 use Rattle.cap.specs.Slot.{holding}
 use Rattle.cap.specs.declared.CapId.{CapId}
 use Rattle.cap.specs.declared.slot.SlotAnswer.{SlotAnswer}
@@ -12,20 +10,19 @@ use Rattle.cap.specs.declared.slot.SlotAnswer.TheVariants.{Names, OutOfRange, Va
 use Rattle.capslots.specs.Rows.{get_of}
 use Rattle.ipc_rules.specs.Create.{create_of}
 use Rattle.ipc_rules.specs.Holds.{registered}
-use Rattle.ipc_rules.specs.Opening.{opening_of, opened as onOpening}
+use Rattle.ipc_rules.specs.Opening.{opened as onOpening}
 use Rattle.ipc_rules.specs.Revoke.{revoke_of}
-use Rattle.ipc_rules.specs.declared.state.Channel.{Channel}
 use Rattle.ipc_rules.specs.declared.state.Table.{Table as Channels}
 use Rattle.history.specs.Calls as calls
 use Rattle.history.specs.Joined.{registering}
 use Rattle.history.specs.World as world
 use Rattle.history.proofs.Kept.{step_table, run_on, reached_run}
-use Rattle.history.proofs.Joined.{one_call, id_registered}
+use Rattle.history.proofs.Joined.{id_registered}
 use Rattle.joined.specs.declared.answers.Giving.{Giving}
 use Rattle.dispatcher_rules.specs.Answers.{open_number}
 use Rattle.dispatcher_rules.specs.State.{row_of}
 use Rattle.dispatcher_rules.specs.Open.{open_job_of}
-use Rattle.dispatcher_rules.specs.Close.{end_of, close_job_of}
+use Rattle.dispatcher_rules.specs.Close.{close_job_of}
 use Rattle.dispatcher_rules.specs.Slots.{slotted, slot_send_of, slot_recv_of, slot_park_of}
 use Rattle.dispatcher_rules.specs.declared.state.Desk.{Desk}
 use Rattle.dispatcher_rules.specs.declared.state.Tag.{Tag}

@@ -1,6 +1,5 @@
 -- What a closing leaves. Assumes nothing.
 use mathlib.Core.Path.{◌≡◌, refl, sym, ap, ◌∙◌}
-use mathlib.Core.Bool.{false}
 use Prim.Native.Nat.{ℕ}
 use Rattle.cap.specs.Rights.{send_right, receive_right}
 use Rattle.cap.specs.declared.CapId.{CapId}
@@ -19,10 +18,9 @@ use Rattle.dispatcher_rules.specs.declared.state.Desk.{Desk}
 use Rattle.dispatcher_rules.specs.declared.state.Job.{Job}
 use Rattle.dispatcher_rules.specs.declared.answers.JobClosing.{JobClosing}
 use Rattle.dispatcher_rules.specs.declared.answers.CloseAnswer.TheVariants.{Closed, BadTable}
-use Rattle.isolation.specs.Runs.{close, closing, after}
+use Rattle.isolation.specs.Runs.{closing, after}
 use Rattle.isolation.specs.Jobs.{job_in, OpenIn}
-use Rattle.isolation.specs.Own.{OwnIn}
-use Rattle.isolation.specs.Closing.{Closes, ClosingEnds}
+use Rattle.isolation.specs.Closing.{ClosingEnds}
 use Rattle.isolation.proofs.Ended.{channel_ended}
 use Rattle.isolation.proofs.Kept.{Kept}
 use Rattle.isolation.proofs.Opened.{close_done}

@@ -44,7 +44,6 @@ use Rattle.isolation.specs.Jobs.{if_received, handed_to}
 use Rattle.isolation.specs.Isolation.{FromItsJob}
 use Rattle.isolation.specs.Waits.{WaitsFor}
 use Rattle.isolation.proofs.Isolation.{isolation}
-use Rattle.isolation.proofs.Kept.{Kept}
 use Rattle.isolation.proofs.Reaches.{serves, all_kept, start_kept, reached_run}
 use Rattle.isolation.proofs.Waits.{parked_waits}
 use Rattle.isolation.proofs.Rules.{rule_after, rule_run, run_rule}

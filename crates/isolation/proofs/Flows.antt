@@ -3,7 +3,7 @@
 use mathlib.Core.Path.{◌≡◌, refl, sym, ap, ◌∙◌}
 use mathlib.Core.Bool.{Bool, true, false}
 use mathlib.Core.List.{List, [], ◌∷◌, ◌++◌, append-nil}
-use mathlib.Core.Logic.{◌⊎◌, ⊎_elim}
+use mathlib.Core.Logic.{⊎_elim}
 use Prim.Native.Nat.{ℕ}
 use lib.Dec.{eqb}
 use borrow.Author.Tests.{eqb-false, eq-eqb, ne_eqb}
@@ -12,7 +12,7 @@ use Rattle.laws.specs.declared.Found.TheVariants.{At}
 use Rattle.laws.proofs.Bools.{same?}
 use Rattle.laws.proofs.Cases.{not_both}
 use Rattle.laws.proofs.Search.{lowest_at}
-use Rattle.cap.specs.Rights.{send_right, receive_right}
+use Rattle.cap.specs.Rights.{send_right}
 use Rattle.cap.specs.Slot.{holding}
 use Rattle.cap.specs.declared.CapId.{CapId}
 use Rattle.capslots.specs.Table.{slot_in}
@@ -38,7 +38,7 @@ use Rattle.history.specs.Traffic.{if_sent, by_receive, by_park}
 use Rattle.dispatcher_rules.specs.State.{row_of, job_at, no_job, open_job}
 use Rattle.dispatcher_rules.specs.Open.{free_place, open_job_of}
 use Rattle.dispatcher_rules.specs.Close.{close_job_of}
-use Rattle.dispatcher_rules.specs.Slots.{slot_sent, slot_received, slot_parked, slot_send_of, slot_recv_of, slot_park_of}
+use Rattle.dispatcher_rules.specs.Slots.{slot_send_of, slot_recv_of, slot_park_of}
 use Rattle.dispatcher_rules.specs.declared.state.Desk.{Desk}
 use Rattle.dispatcher_rules.specs.declared.state.Tag.{Tag}
 use Rattle.dispatcher_rules.specs.declared.answers.JobOpening.{JobOpening}
@@ -52,16 +52,14 @@ use Rattle.dispatcher_rules.specs.declared.answers.SlotParking.{SlotParking}
 use Rattle.dispatcher_rules.proofs.Ways.{open_ways, close_ways, all_slotted}
 use Rattle.isolation.specs.Runs.{JobCall, open_for, close, send, receive, park, opened, closed, sent as sentDesk, received as receivedDesk, parked as parkedDesk, after}
 use Rattle.isolation.specs.Jobs.{job_in, OpenIn, slot_holds, if_accepted, if_received, if_given, accepted, handed, closes}
-use Rattle.isolation.proofs.Added.{channel_made, channel_added}
+use Rattle.isolation.proofs.Added.{channel_added}
 use Rattle.isolation.proofs.Ended.{channel_ended}
-use Rattle.isolation.proofs.Ids.{one_box}
 use Rattle.isolation.proofs.Kept.{Kept}
 use Rattle.isolation.proofs.KeptSlots.{with_channels}
 use Rattle.isolation.proofs.KeptOpen.{both_given_lem}
 use Rattle.isolation.proofs.Places.{other_job}
 use Rattle.isolation.proofs.Reaches.{serves}
 use Rattle.isolation.proofs.Slots.{get_names}
-use Rattle.isolation.proofs.Still.{send_still, recv_still, park_still}
 use Rattle.isolation.proofs.Whose.{holds_send, holds_recv}
 
 -- the job in place p, of mailbox k, is as it was on desk v, and its queue is so far on

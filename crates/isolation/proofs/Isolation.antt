@@ -1,6 +1,6 @@
 -- The customer's sentence: a message is handed out only to the row that its job's tag is bound to. Assumes nothing.
 use mathlib.Core.Path.{◌≡◌, refl, sym, ap, subst, ◌∙◌}
-use mathlib.Core.Bool.{Bool, true, false}
+use mathlib.Core.Bool.{true, false}
 use mathlib.Core.List.Memᴰ
 use mathlib.Core.List.{List, [], ◌∷◌, ◌++◌, Memᴰ}
 use Prim.Native.Nat.{ℕ}
@@ -25,7 +25,6 @@ use Rattle.ipc_rules.proofs.AfterReceive as recv
 use Rattle.ipc_rules.proofs.AfterPark as park
 use Rattle.history.specs.Traffic.{by_receive, by_park}
 use Rattle.dispatcher_rules.specs.Slots.{slot_recv_of, slot_park_of}
-use Rattle.dispatcher_rules.specs.State.{open_job}
 use Rattle.dispatcher_rules.specs.declared.state.Desk.{Desk}
 use Rattle.dispatcher_rules.specs.declared.state.Job.{Job}
 use Rattle.dispatcher_rules.specs.declared.state.Tag.{Tag}
@@ -35,8 +34,8 @@ use Rattle.dispatcher_rules.specs.declared.answers.SlotRecvAnswer as received
 use Rattle.dispatcher_rules.specs.declared.answers.SlotParkAnswer as parked
 use Rattle.dispatcher_rules.proofs.Promises.{made_closed}
 use Rattle.dispatcher_rules.proofs.Ways.{all_slotted}
-use Rattle.isolation.specs.Runs.{JobCall, open_for, close, send, receive, park, receiving, parking, after, run, start}
-use Rattle.isolation.specs.Jobs.{job_in, OpenIn, BoundTo, slot_holds, if_received, if_given, handed, handed_to, all_accepted, all_handed, JobOf, since}
+use Rattle.isolation.specs.Runs.{JobCall, open_for, close, send, receive, park, receiving, parking, run, start}
+use Rattle.isolation.specs.Jobs.{job_in, BoundTo, slot_holds, if_received, if_given, handed, handed_to, all_accepted, all_handed, JobOf, since}
 use Rattle.isolation.specs.Isolation.{FromItsJob, Isolation}
 use Rattle.isolation.proofs.Along.{along, run_from}
 use Rattle.isolation.proofs.Flows.{Flows}

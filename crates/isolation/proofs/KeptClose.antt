@@ -1,25 +1,18 @@
 -- A closing keeps it: the closed job's ids stand nowhere, and the other jobs are as they were. Assumes nothing.
-use mathlib.Core.Path.{◌≡◌, refl, sym, ap, ◌∙◌}
-use mathlib.Core.Bool.{true, false}
-use mathlib.Core.Logic.{⊎_elim}
+use mathlib.Core.Path.{◌≡◌, sym, ap, ◌∙◌}
+use mathlib.Core.Bool.{false}
 use Prim.Native.Nat.{ℕ, ◌<◌}
-use native.Mathlib.Omega.{arith}
-use Rattle.laws.proofs.Bools.{same?}
 use Rattle.laws.proofs.Cases.{not_both}
 use Rattle.cap.specs.Rights.{send_right, receive_right}
-use Rattle.cap.specs.Slot.{holding}
 use Rattle.cap.specs.declared.CapId.{CapId}
-use Rattle.capslots.specs.Table.{slot_in}
 use Rattle.capslots.specs.Rows.{forgotten_of}
 use Rattle.capslots.proofs.Forgotten.{forgotten_shape}
 use Rattle.ipc_rules.specs.Sound.{Sound}
-use Rattle.ipc_rules.specs.Opening.{opening_of}
-use Rattle.ipc_rules.specs.declared.opening.Opening.TheVariants.{Opens, Shut}
 use Rattle.ipc_rules.specs.declared.state.Channel.{Channel}
 use Rattle.ipc_rules.specs.declared.state.Table.{Table as Channels}
 use Rattle.ipc_rules.proofs.AfterRevoke.{Revokes}
 use Rattle.dispatcher_rules.specs.State.{no_job, with_job}
-use Rattle.dispatcher_rules.specs.Close.{end_of, close_job_of}
+use Rattle.dispatcher_rules.specs.Close.{close_job_of}
 use Rattle.dispatcher_rules.specs.declared.state.Desk.{Desk}
 use Rattle.dispatcher_rules.specs.declared.state.Job.{Job}
 use Rattle.dispatcher_rules.specs.declared.answers.JobClosing.{JobClosing}

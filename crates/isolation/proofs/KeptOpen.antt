@@ -12,7 +12,6 @@ use Rattle.laws.proofs.Search.{lowest_at}
 use Rattle.cap.specs.Rights.{send_right, receive_right}
 use Rattle.cap.specs.Slot.{holding}
 use Rattle.cap.specs.declared.CapId.{CapId}
-use Rattle.cap.specs.declared.CapRights.{CapRights}
 use Rattle.capslots.specs.Table.{slot_in, with_slot, Shape}
 use Rattle.capslots.specs.Rows.{empty_slot_of}
 use Rattle.capslots.specs.declared.Table.{Table as Rows}
@@ -22,7 +21,7 @@ use Rattle.ipc_rules.specs.Sound.{Sound}
 use Rattle.ipc_rules.specs.Opening.{opening_of}
 use Rattle.ipc_rules.specs.Create.{create_of}
 use Rattle.ipc_rules.specs.Holds.{registered}
-use Rattle.ipc_rules.specs.declared.opening.Opening.TheVariants.{Opens, Shut}
+use Rattle.ipc_rules.specs.declared.opening.Opening.TheVariants.{Opens}
 use Rattle.ipc_rules.specs.declared.state.Channel.{Channel}
 use Rattle.ipc_rules.specs.declared.state.Table.{Table as Channels}
 use Rattle.ipc_rules.proofs.KeepsCalls.{registered_kept}
@@ -39,8 +38,8 @@ use Rattle.dispatcher_rules.proofs.Ways.{open_ways}
 use Rattle.isolation.specs.Runs.{opened}
 use Rattle.isolation.specs.Jobs.{job_in, OpenIn, BoundTo}
 use Rattle.isolation.specs.Own.{InJob, as_send, as_recv, OwnIn, StandsOnce}
-use Rattle.isolation.proofs.Added.{Adds, Added, channel_made, channel_added}
-use Rattle.isolation.proofs.Ids.{unlike, never_opens}
+use Rattle.isolation.proofs.Added.{Adds, channel_made, channel_added}
+use Rattle.isolation.proofs.Ids.{unlike}
 use Rattle.isolation.proofs.Kept.{Kept}
 use Rattle.isolation.proofs.Places.{other_job, new_job, places_kept, bound_still}
 use Rattle.isolation.proofs.Slots.{given_there, stands_there, stands_still, stood}

@@ -1,5 +1,5 @@
 -- Sending, receiving and parking keep it. Assumes nothing.
-use mathlib.Core.Path.{◌≡◌, refl, sym, ◌∙◌}
+use mathlib.Core.Path.{sym, ◌∙◌}
 use Prim.Native.Nat.{ℕ}
 use Rattle.cap.specs.declared.CapId.{CapId}
 use Rattle.ipc_rules.specs.Sound.{Sound}
@@ -14,7 +14,7 @@ use Rattle.dispatcher_rules.specs.declared.answers.SlotReceiving.{SlotReceiving}
 use Rattle.dispatcher_rules.specs.declared.answers.SlotParking.{SlotParking}
 use Rattle.dispatcher_rules.proofs.Ways.{all_slotted}
 use Rattle.isolation.specs.Runs.{sent, received, parked}
-use Rattle.isolation.specs.Jobs.{OpenIn, job_in, BoundTo}
+use Rattle.isolation.specs.Jobs.{OpenIn}
 use Rattle.isolation.specs.Own.{InJob, as_send, as_recv, OwnIn}
 use Rattle.isolation.proofs.Kept.{Kept}
 use Rattle.isolation.proofs.Still.{Still, send_still, recv_still, park_still}

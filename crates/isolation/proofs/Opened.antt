@@ -1,10 +1,9 @@
 -- Every job that is open has its opening in the run: what that opening left, and that no later call closed its place. Assumes nothing.
 use mathlib.Core.Path.{◌≡◌, refl, sym, ap, subst, ◌∙◌}
-use mathlib.Core.Bool.{Bool, true, false}
+use mathlib.Core.Bool.{true, false}
 use mathlib.Core.List.{List, [], ◌∷◌, ◌++◌, append-nil, append_assoc}
 use mathlib.Core.Logic.{◌⊎◌, inl, inr, ⊎_elim}
 use Prim.Native.Nat.{ℕ, ◌<◌}
-use native.Mathlib.Omega.{arith}
 use borrow.Author.Tests.{lt-leb, ne_eqb, eqb-false}
 use Rattle.laws.specs.Pick.{pick}
 use Rattle.laws.proofs.Bools.{same?, either}
@@ -38,9 +37,9 @@ use Rattle.dispatcher_rules.specs.declared.answers.SlotSending.{SlotSending}
 use Rattle.dispatcher_rules.specs.declared.answers.SlotReceiving.{SlotReceiving}
 use Rattle.dispatcher_rules.specs.declared.answers.SlotParking.{SlotParking}
 use Rattle.dispatcher_rules.proofs.Ways.{open_ways, close_ways, all_slotted}
-use Rattle.isolation.specs.Runs.{JobCall, open_for, close, send, receive, park, opening, opened, closed, after, run}
-use Rattle.isolation.specs.Jobs.{job_in, OpenIn, closes, Spares, none, JobOf}
-use Rattle.isolation.proofs.Added.{channel_made, channel_added}
+use Rattle.isolation.specs.Runs.{JobCall, open_for, close, send, receive, park, opening, opened, after, run}
+use Rattle.isolation.specs.Jobs.{job_in, OpenIn, closes, none, JobOf}
+use Rattle.isolation.proofs.Added.{channel_added}
 use Rattle.isolation.proofs.Along.{run_more, spares_more}
 use Rattle.isolation.proofs.Flows.{call_flows}
 use Rattle.isolation.proofs.Ids.{unlike}

@@ -1,9 +1,8 @@
 -- Each open place has its own live channel with its own two ids and its one hold. Assumes nothing.
-use mathlib.Core.Path.{◌≡◌, refl, sym, ap, ◌∙◌}
+use mathlib.Core.Path.{◌≡◌, ap, ◌∙◌}
 use Rattle.cap.specs.Rights.{send_right, receive_right}
 use Rattle.ipc_rules.specs.declared.opening.Opening.TheVariants.{Opens}
-use Rattle.isolation.specs.Jobs.{job_in}
-use Rattle.isolation.specs.Own.{Apart, SlotsOfJobs, OwnChannels, ChannelsApart}
+use Rattle.isolation.specs.Own.{SlotsOfJobs, OwnChannels, ChannelsApart}
 use Rattle.isolation.proofs.Ids.{one_box, unlike}
 use Rattle.isolation.proofs.Reaches.{all_kept}
 

@@ -1,21 +1,18 @@
 -- Whatever dispatcher calls reach from fresh tables is kept. Assumes nothing.
-use mathlib.Core.Path.{◌≡◌, refl, sym, ap, ◌∙◌}
+use mathlib.Core.Path.{◌≡◌, refl}
 use mathlib.Core.Bool.{true, false}
 use mathlib.Core.List.{List, [], ◌∷◌}
 use Prim.Native.Nat.{ℕ, zero, suc}
-use native.Mathlib.Omega.{arith}
 use lib.ListN.{get_or, replicate, length}
 use Rattle.laws.specs.Pick.{pick}
 use Rattle.laws.proofs.Cases.{all_pick, not_both}
 use Rattle.cap.specs.Slot.{vacant_slot, four_vacant}
-use Rattle.capslots.specs.Table.{empty_row, fresh_table, slot_in}
-use Rattle.capslots.specs.declared.Row.{Row}
+use Rattle.capslots.specs.Table.{empty_row}
 use Rattle.capslots.proofs.Places.{shape_fresh}
-use Rattle.ipc_rules.specs.Make.{fresh_of, in_range}
+use Rattle.ipc_rules.specs.Make.{in_range}
 use Rattle.ipc_rules.specs.declared.state.Sizes.{Sizes}
 use Rattle.ipc_rules.specs.declared.state.Table.{Table as Channels}
 use Rattle.ipc_rules.proofs.Fresh.{in_range_of, fresh_sound}
-use Rattle.dispatcher_rules.specs.State.{job_at}
 use Rattle.dispatcher_rules.specs.Make.{make_of}
 use Rattle.dispatcher_rules.specs.Border.{Ready, guarded_by}
 use Rattle.dispatcher_rules.specs.declared.state.Desk.{Desk}
@@ -25,7 +22,6 @@ use Rattle.dispatcher_rules.specs.declared.answers.MakeAnswer.TheVariants.{Made}
 use Rattle.dispatcher_rules.specs.declared.state.Variant.{Variant}
 use Rattle.dispatcher_rules.proofs.Promises.{made_bound, made_closed, ready_passes}
 use Rattle.isolation.specs.Runs.{JobCall, open_for, close, send, receive, park, after, run, start, Reached, fresh, then}
-use Rattle.isolation.specs.Jobs.{OpenIn}
 use Rattle.isolation.proofs.Kept.{Kept}
 use Rattle.isolation.proofs.KeptClose.{close_keeps}
 use Rattle.isolation.proofs.KeptOpen.{open_keeps}

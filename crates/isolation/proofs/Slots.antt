@@ -2,23 +2,22 @@
 use mathlib.Core.Path.{◌≡◌, refl, sym, ap, ◌∙◌}
 use mathlib.Core.Bool.{Bool, true, false, ◌||◌}
 use mathlib.Core.Logic.{◌⊎◌, inl, inr, ⊎_elim}
-use Prim.Native.Nat.{ℕ, ◌<◌}
+use Prim.Native.Nat.{ℕ}
 use native.Mathlib.Omega.{arith}
-use borrow.Author.Tests.{eqb-true, eqb-false, eq-eqb, ne_eqb}
-use lib.Dec.{eqb}
+use borrow.Author.Tests.{eqb-true, eq-eqb, ne_eqb}
 use Rattle.laws.specs.Pick.{pick}
 use Rattle.laws.specs.declared.Found.TheVariants.{At}
-use Rattle.laws.proofs.Bools.{either, same?}
+use Rattle.laws.proofs.Bools.{same?}
 use Rattle.laws.proofs.Cases.{all_pick, not_both}
-use Rattle.cap.specs.Slot.{vacant_slot, holding, from_slot}
+use Rattle.cap.specs.Slot.{holding, from_slot}
 use Rattle.cap.specs.declared.CapId.{CapId}
 use Rattle.cap.specs.declared.slot.Slot.{Slot}
 use Rattle.cap.specs.declared.slot.SlotAnswer.{SlotAnswer}
 use Rattle.cap.specs.declared.slot.SlotAnswer.TheVariants.{Names}
-use Rattle.capslots.specs.Table.{row_at, slot_in, with_slot, Shape}
+use Rattle.capslots.specs.Table.{slot_in, with_slot, Shape}
 use Rattle.capslots.specs.Rows.{names_id, get_of, empty_slot_of, forget_in, forgotten_of}
 use Rattle.capslots.specs.declared.Table.{Table as Rows}
-use Rattle.capslots.proofs.Empty.{LowestEmpty, empty_found, installs_there}
+use Rattle.capslots.proofs.Empty.{empty_found, installs_there}
 use Rattle.capslots.proofs.Forgotten.{forgotten_slot, forgotten_other}
 use Rattle.capslots.proofs.Places.{new_slot, other_slot}
 use Rattle.ipc_rules.specs.Holds.{registered}

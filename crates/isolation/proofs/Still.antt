@@ -1,6 +1,5 @@
 -- Calls that open and end no channel: what ids open is as it was, and so is each mailbox but for its queue and its waiter. Assumes nothing.
-use mathlib.Core.Path.{◌≡◌, refl, ◌∙◌}
-use mathlib.Core.Logic.{⊎_elim}
+use mathlib.Core.Path.{◌≡◌}
 use Prim.Native.Nat.{ℕ}
 use Rattle.laws.proofs.Bools.{by_equal}
 use Rattle.cap.specs.declared.CapId.{CapId}
@@ -13,7 +12,7 @@ use Rattle.ipc_rules.specs.declared.state.Message.{Message}
 use Rattle.ipc_rules.specs.declared.state.Payload.{Payload}
 use Rattle.ipc_rules.specs.declared.state.TaskId.{TaskId}
 use Rattle.ipc_rules.specs.declared.state.Table.{Table as Channels}
-use Rattle.ipc_rules.proofs.AfterSend.{Sends, SendWays, bad_row, bad_cap, full, sent, send_ways}
+use Rattle.ipc_rules.proofs.AfterSend.{SendWays, bad_row, bad_cap, full, sent, send_ways}
 use Rattle.ipc_rules.proofs.AfterReceive as recv
 use Rattle.ipc_rules.proofs.AfterPark as park
 use Rattle.ipc_rules.proofs.Changes.{counts_anew, alike_same, steady_same}

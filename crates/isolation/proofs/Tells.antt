@@ -1,24 +1,20 @@
 -- What a dispatcher call answers of the channels is what its call on the channel table answers. Assumes nothing.
-use mathlib.Core.Path.{◌≡◌, refl, sym, ap, ◌∙◌}
+use mathlib.Core.Path.{◌≡◌, sym, ap, ◌∙◌}
 use mathlib.Core.Bool.{true}
 use Prim.Native.Nat.{ℕ}
 use native.Mathlib.Omega.{arith}
-use Rattle.cap.specs.declared.CapId.{CapId}
-use Rattle.cap.specs.declared.slot.SlotAnswer.TheVariants.{Names}
-use Rattle.capslots.specs.Rows.{get_of}
 use Rattle.ipc_rules.specs.Create.{create_of}
 use Rattle.ipc_rules.specs.Revoke.{revoke_of}
 use Rattle.ipc_rules.specs.declared.state.Payload.{Payload}
 use Rattle.ipc_rules.specs.declared.state.TaskId.{TaskId}
 use Rattle.ipc_rules.specs.declared.state.Waiter.{Waiter}
-use Rattle.ipc_rules.specs.declared.answers.CreateAnswer.{CreateAnswer}
 use Rattle.ipc_rules.specs.declared.answers.CreateAnswer.TheVariants.{Created}
 use Rattle.ipc_rules.specs.declared.answers.RevokeAnswer.TheVariants.{Revoked}
 use Rattle.ipc_rules.specs.declared.answers.SendAnswer.{SendAnswer}
 use Rattle.ipc_rules.specs.declared.answers.RecvAnswer.{RecvAnswer}
 use Rattle.ipc_rules.specs.declared.answers.ParkAnswer.{ParkAnswer}
 use Rattle.history.specs.Calls as calls
-use Rattle.dispatcher_rules.specs.Answers.{open_number, close_number, slot_send_number, slot_recv_number, slot_park_number}
+use Rattle.dispatcher_rules.specs.Answers.{open_number, close_number}
 use Rattle.dispatcher_rules.specs.Open.{open_job_of}
 use Rattle.dispatcher_rules.specs.Close.{end_of, close_job_of}
 use Rattle.dispatcher_rules.specs.Slots.{slot_send_of, slot_recv_of, slot_park_of}
@@ -38,7 +34,7 @@ use Rattle.dispatcher_rules.specs.declared.answers.SlotParkAnswer as park
 use Rattle.dispatcher_rules.proofs.Ways.{open_ways, close_ways, all_slotted}
 use Rattle.isolation.specs.Jobs.{job_in}
 use Rattle.isolation.specs.AsCalls.{ById, JobsTell}
-use Rattle.isolation.proofs.Ended.{Ends, channel_ended}
+use Rattle.isolation.proofs.Ended.{channel_ended}
 use Rattle.isolation.proofs.Kept.{Kept}
 use Rattle.isolation.proofs.Reaches.{serves, all_kept}
 

@@ -1,12 +1,11 @@
 -- What ends a wait for a job, and that nothing else does. Assumes nothing.
 use mathlib.Core.Path.{◌≡◌, refl, sym, ap, ◌∙◌}
-use mathlib.Core.Bool.{Bool, true, false}
+use mathlib.Core.Bool.{true, false}
 use mathlib.Core.List.{List, [], ◌∷◌}
-use mathlib.Core.Logic.{◌⊎◌, inl, inr, ⊎_elim}
+use mathlib.Core.Logic.{◌⊎◌, ⊎_elim}
 use Prim.Native.Nat.{ℕ}
 use native.Mathlib.Omega.{arith}
 use borrow.Author.Tests.{eqb-true, eqb-false, eq-eqb, ne_eqb}
-use lib.Dec.{eqb}
 use lib.ListN.{length}
 use Rattle.laws.specs.Pick.{pick}
 use Rattle.laws.proofs.Bools.{same?}
@@ -30,7 +29,7 @@ use Rattle.ipc_rules.specs.declared.state.Table.{Table as Channels}
 use Rattle.ipc_rules.specs.declared.answers.ParkAnswer.TheVariants.{Parked}
 use Rattle.ipc_rules.specs.declared.answers.SendAnswer as sending
 use Rattle.ipc_rules.specs.declared.answers.SendAnswer.TheVariants.{Sent}
-use Rattle.ipc_rules.proofs.AfterSend.{Sends, SendWays, bad_row, bad_cap, full, sent, send_ways}
+use Rattle.ipc_rules.proofs.AfterSend.{SendWays, bad_row, bad_cap, full, sent, send_ways}
 use Rattle.ipc_rules.proofs.AfterReceive as recv
 use Rattle.ipc_rules.proofs.AfterPark as park
 use Rattle.ipc_rules.proofs.AfterCounts.{authority_only, full_only, state_only}
@@ -52,9 +51,9 @@ use Rattle.dispatcher_rules.specs.declared.answers.SlotReceiving.{SlotReceiving}
 use Rattle.dispatcher_rules.specs.declared.answers.SlotParking.{SlotParking}
 use Rattle.dispatcher_rules.specs.declared.answers.SlotParkAnswer as toPark
 use Rattle.dispatcher_rules.proofs.Ways.{open_ways, close_ways, all_slotted}
-use Rattle.isolation.specs.Runs.{JobCall, open_for, close, send, receive, park, closing, after, run, Reached, then}
+use Rattle.isolation.specs.Runs.{JobCall, open_for, close, send, receive, park, after, run, Reached, then}
 use Rattle.isolation.specs.Jobs.{job_in, OpenIn, BoundTo, slot_holds, if_accepted, accepted, closes}
-use Rattle.isolation.specs.Waits.{Waits, Named, by_sending, by_closing, WaitsOn, WaitEnds, WaitsFor, ParkedWaits, none, more, WaitsThrough}
+use Rattle.isolation.specs.Waits.{Waits, Named, by_sending, by_closing, WaitsOn, WaitEnds, ParkedWaits, none, more, WaitsThrough}
 use Rattle.isolation.proofs.Added.{channel_added}
 use Rattle.isolation.proofs.Closing.{closing_ends}
 use Rattle.isolation.proofs.Ended.{channel_ended}

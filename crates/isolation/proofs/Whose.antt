@@ -1,6 +1,5 @@
 -- An id that stands in a slot and opens a mailbox is the id of the job whose mailbox it is. Assumes nothing.
 use mathlib.Core.Path.{◌≡◌, refl, sym, ap, ◌∙◌}
-use mathlib.Core.Bool.{Bool, true, false}
 use mathlib.Core.Logic.{⊎_elim}
 use Prim.Native.Nat.{ℕ}
 use lib.Dec.{eqb}
@@ -17,7 +16,7 @@ use Rattle.ipc_rules.specs.declared.opening.Opening.TheVariants.{Opens}
 use Rattle.dispatcher_rules.specs.declared.state.Desk.{Desk}
 use Rattle.isolation.specs.Jobs.{job_in, OpenIn, BoundTo, slot_holds}
 use Rattle.isolation.specs.Own.{InJob, as_send, as_recv}
-use Rattle.isolation.proofs.Ids.{one_box, unlike, never_opens}
+use Rattle.isolation.proofs.Ids.{one_box, unlike}
 use Rattle.isolation.proofs.Kept.{Kept}
 use Rattle.isolation.proofs.Slots.{names_itself, names_other}
 

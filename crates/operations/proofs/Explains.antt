@@ -20,7 +20,6 @@ use Rattle.ipc_rules.specs.Why.{why_of, why_number, why_values, Explained, Expla
 use Rattle.ipc_rules.specs.declared.state.Payload.{Payload}
 use Rattle.ipc_rules.specs.declared.state.TaskId.{TaskId}
 use Rattle.ipc_rules.specs.declared.state.Table.{Table}
-use Rattle.ipc_rules.specs.declared.answers.Sending.{Sending}
 use Rattle.ipc_rules.specs.declared.answers.SendAnswer as sends
 use Rattle.ipc_rules.specs.declared.answers.RecvAnswer as receives
 use Rattle.ipc_rules.specs.declared.answers.ParkAnswer as parks

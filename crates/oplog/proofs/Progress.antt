@@ -23,7 +23,7 @@ use Rattle.oplog.specs.Step.{step_number, reading, writing, text_of, refused_ste
 use Rattle.oplog.specs.Run.{Ended, run_from}
 use Rattle.oplog.specs.Text.{most}
 use Rattle.oplog.specs.Replay.{place_fits, Filled, filled, last_line, last_of, log_place_of, ending_of, ran_of, replay_of}
-use Rattle.oplog.specs.declared.StepAnswer.TheVariants.{Took, Short, BadMark, BadOp, BadOperand, NoRoom}
+use Rattle.oplog.specs.declared.StepAnswer.TheVariants.{Took, NoRoom}
 use Rattle.oplog.specs.declared.Stepped.{Stepped}
 use Rattle.oplog.specs.declared.replay.Place.{Place}
 use Rattle.oplog.proofs.Runs.{used}

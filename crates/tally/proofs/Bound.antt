@@ -18,9 +18,7 @@ use Rattle.capslots.specs.declared.Table.{Table as Rows}
 use Rattle.ipc_rules.specs.Create.{create_of}
 use Rattle.ipc_rules.specs.Holds.{registered}
 use Rattle.ipc_rules.specs.Opening.{opening_of, hold_of, opened}
-use Rattle.ipc_rules.specs.State.{next_of}
-use Rattle.ipc_rules.specs.Views.{hold_count}
-use Rattle.ipc_rules.specs.declared.opening.Opening.TheVariants.{Opens, Shut}
+use Rattle.ipc_rules.specs.declared.opening.Opening.TheVariants.{Opens}
 use Rattle.ipc_rules.specs.declared.state.Channel.{Channel}
 use Rattle.ipc_rules.specs.declared.state.Table.{Table as Channels}
 use Rattle.ipc_rules.proofs.AfterCreate.{Creates}
@@ -33,8 +31,8 @@ use Rattle.history.specs.World as worlds
 use Rattle.history.proofs.Kept.{step_table}
 use Rattle.history.proofs.Tidy.{gen_of}
 use Rattle.history.proofs.Return.{Idle, idle_shut, makes_first, idle_round, idle_start, revoke_table, round, small}
-use Rattle.tally.specs.Count.{sum_over, over_slots, slots_with}
-use Rattle.tally.specs.Runs.{Among, as_send, earlier, Books, give, create, revoke, after, if_created, PutsCreated, start, Reached, fresh, then}
+use Rattle.tally.specs.Count.{sum_over, over_slots}
+use Rattle.tally.specs.Runs.{Among, as_send, earlier, Books, give, create, revoke, after, if_created, PutsCreated, Reached, fresh, then}
 use Rattle.tally.specs.Needed.{first, BoundNeeded}
 
 -- the books of a run that has touched nothing but channels

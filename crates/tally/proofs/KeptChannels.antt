@@ -1,51 +1,50 @@
 -- Calls on the channel table alone keep it: a creation, a revocation, and the calls that open and end no channel. Assumes nothing.
 use mathlib.Core.Path.{◌≡◌, refl, sym, ap, ◌∙◌}
-use mathlib.Core.Bool.{Bool, true, false}
-use mathlib.Core.List.{List, [], ◌∷◌}
+use mathlib.Core.Bool.{Bool, true}
+use mathlib.Core.List.{List, ◌∷◌}
 use mathlib.Core.Logic.{◌⊎◌, inl, inr, ⊎_elim}
-use Prim.Native.Nat.{ℕ, zero, suc, ◌+◌, ◌≤◌, ◌<◌}
+use Prim.Native.Nat.{ℕ, suc, ◌≤◌, ◌<◌}
 use native.Mathlib.Omega.{arith}
 use borrow.Author.Tests.{ne_eqb}
 use lib.ListN.{length}
 use Rattle.laws.specs.Pick.{pick}
-use Rattle.laws.proofs.Bools.{same?, either}
+use Rattle.laws.proofs.Bools.{same?}
 use Rattle.laws.proofs.Cases.{not_both}
 use Rattle.cap.specs.Id.{id_of, index_of, generation_of, bit, class_of}
-use Rattle.cap.specs.Rights.{send_right, receive_right, contains_all}
+use Rattle.cap.specs.Rights.{send_right}
 use Rattle.cap.specs.Slot.{holding}
 use Rattle.cap.specs.declared.CapId.{CapId}
-use Rattle.cap.specs.declared.CapRights.{CapRights}
 use Rattle.cap.specs.declared.slot.Slot.{Slot}
 use Rattle.cap.proofs.Ids.{generation_of_id}
 use Rattle.cap.proofs.Rights.{receive_lacks_send}
-use Rattle.capslots.specs.Table.{slot_in, Shape}
+use Rattle.capslots.specs.Table.{slot_in}
 use Rattle.capslots.specs.Transfer.{is_endpoint}
 use Rattle.capslots.specs.declared.Table.{Table as Rows}
 use Rattle.mint.specs.Generation.{next_generation}
-use Rattle.ipc_rules.specs.State.{mailbox_live, next_of}
+use Rattle.ipc_rules.specs.State.{mailbox_live}
 use Rattle.ipc_rules.specs.Sound.{Sound}
 use Rattle.ipc_rules.specs.Opening.{opening_of, hold_of}
 use Rattle.ipc_rules.specs.Create.{create_of}
 use Rattle.ipc_rules.specs.Revoke.{revoke_of}
-use Rattle.ipc_rules.specs.Views.{hold_count, held_by, Steady}
+use Rattle.ipc_rules.specs.Views.{hold_count, held_by}
 use Rattle.ipc_rules.specs.declared.opening.Opening.{Opening}
 use Rattle.ipc_rules.specs.declared.opening.Opening.TheVariants.{Opens, Shut}
 use Rattle.ipc_rules.specs.declared.state.Channel.{Channel}
 use Rattle.ipc_rules.specs.declared.state.Table.{Table as Channels}
 use Rattle.ipc_rules.proofs.AfterCreate.{Creates, CreateWays, no_mailbox, no_endpoint, created, create_ways}
-use Rattle.ipc_rules.proofs.AfterRevoke.{Revokes, RevokeWays, bad_cap, revoked, revoke_ways}
+use Rattle.ipc_rules.proofs.AfterRevoke.{RevokeWays, bad_cap, revoked, revoke_ways}
 use Rattle.ipc_rules.proofs.AfterCounts.{authority_only}
 use Rattle.ipc_rules.proofs.Held.{held_none, held_other}
 use Rattle.ipc_rules.proofs.KeepsCreate.{create_kept}
 use Rattle.ipc_rules.proofs.KeepsRevoke.{revoke_kept}
-use Rattle.ipc_rules.proofs.Openings.{hold_vacant, hold_opens}
+use Rattle.ipc_rules.proofs.Openings.{hold_opens}
 use Rattle.ipc_rules.proofs.OtherOpenings.{hold_is}
 use Rattle.isolation.proofs.Ended.{shut_stays}
-use Rattle.isolation.proofs.Still.{Still, Stays, stays_alike}
+use Rattle.isolation.proofs.Still.{Still, stays_alike}
 use Rattle.tally.specs.Count.{over_slots}
 use Rattle.tally.specs.Runs.{Among, as_send, as_recv, earlier, Made, last, before, if_created}
 use Rattle.tally.proofs.Sums.{sum_agrees, sum_zero}
-use Rattle.tally.proofs.Tallied.{Sender, sender_still, Tallied, held_iff, held_still, same_slots, few_slots}
+use Rattle.tally.proofs.Tallied.{sender_still, Tallied, held_iff, held_still, same_slots}
 
 -- ---- nothing opened, nothing ended
 module _ {t : Channels} {rows : Rows} {l : List Channel} (x : Tallied t rows l) (u : Channels) (σ : Sound u) where

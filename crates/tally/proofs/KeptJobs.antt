@@ -1,11 +1,10 @@
 -- Transfer, and the dispatcher's opening and closing, keep it. Assumes nothing.
 use mathlib.Core.Path.{◌≡◌, refl, sym, ap, ◌∙◌}
-use mathlib.Core.Bool.{Bool, true, false, ◌||◌}
-use mathlib.Core.List.{List, [], ◌∷◌}
-use mathlib.Core.Logic.{◌⊎◌, inl, inr, ⊎_elim}
-use Prim.Native.Nat.{ℕ, ◌+◌, ◌≤◌, ◌<◌}
-use native.Mathlib.Omega.{arith}
-use lib.ListN.{get_or, length}
+use mathlib.Core.Bool.{true, ◌||◌}
+use mathlib.Core.List.{List, []}
+use mathlib.Core.Logic.{⊎_elim}
+use Prim.Native.Nat.{ℕ, ◌<◌}
+use lib.ListN.{get_or}
 use Rattle.laws.specs.Pick.{pick}
 use Rattle.laws.proofs.Bools.{same?, or_cases}
 use Rattle.laws.proofs.Cases.{all_pick}
@@ -22,14 +21,14 @@ use Rattle.capslots.specs.declared.moves.Transferred.{Transferred as Transferrin
 use Rattle.capslots.proofs.Places.{new_slot, other_slot, shape_slot}
 use Rattle.capslots.proofs.Forgotten.{forgotten_shape}
 use Rattle.capslots.proofs.Ways.{transfer_ways}
-use Rattle.ipc_rules.specs.Opening.{opening_of, hold_of}
+use Rattle.ipc_rules.specs.Opening.{opening_of}
 use Rattle.ipc_rules.specs.Views.{held_by}
-use Rattle.ipc_rules.specs.declared.opening.Opening.TheVariants.{Opens, Shut}
+use Rattle.ipc_rules.specs.declared.opening.Opening.TheVariants.{Shut}
 use Rattle.ipc_rules.specs.declared.state.Channel.{Channel}
 use Rattle.ipc_rules.specs.declared.state.Table.{Table as Channels}
 use Rattle.ipc_rules.proofs.Held.{held_none}
 use Rattle.ipc_rules.proofs.OtherOpenings.{hold_is}
-use Rattle.isolation.proofs.Slots.{names_holding, left_standing, same_held, never_vacant}
+use Rattle.isolation.proofs.Slots.{names_holding, left_standing, never_vacant}
 use Rattle.tally.specs.Count.{sum_over, over_slots}
 use Rattle.tally.specs.Runs.{CameFrom}
 use Rattle.tally.proofs.Sums.{sum_map, sum_same}

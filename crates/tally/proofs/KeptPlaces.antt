@@ -1,12 +1,10 @@
 -- Opening and closing a job keep it, and so do the jobs' messages. Assumes nothing.
 use mathlib.Core.Path.{◌≡◌, refl, sym, ap, ◌∙◌}
-use mathlib.Core.Bool.{Bool, true, false}
-use mathlib.Core.List.{List, [], ◌∷◌}
-use mathlib.Core.Logic.{◌⊎◌, inl, inr, ⊎_elim}
-use Prim.Native.Nat.{ℕ, ◌≤◌, ◌<◌}
-use native.Mathlib.Omega.{arith}
+use mathlib.Core.Bool.{true}
+use mathlib.Core.List.{List, ◌∷◌}
+use mathlib.Core.Logic.{⊎_elim}
+use Prim.Native.Nat.{ℕ, ◌≤◌}
 use lib.ListN.{length}
-use Rattle.laws.specs.declared.Found.TheVariants.{At}
 use Rattle.laws.proofs.Bools.{same?}
 use Rattle.laws.proofs.Cases.{not_both}
 use Rattle.laws.proofs.Search.{lowest_at}
@@ -14,17 +12,14 @@ use Rattle.cap.specs.Rights.{send_right}
 use Rattle.cap.specs.Slot.{holding}
 use Rattle.cap.specs.declared.CapId.{CapId}
 use Rattle.capslots.specs.Table.{with_slot}
-use Rattle.capslots.specs.Rows.{empty_slot_of, forgotten_of}
 use Rattle.capslots.specs.declared.Table.{Table as Rows}
 use Rattle.capslots.proofs.Empty.{empty_found}
 use Rattle.ipc_rules.specs.Create.{create_of}
 use Rattle.ipc_rules.specs.Opening.{opening_of, opened}
-use Rattle.ipc_rules.specs.Revoke.{revoke_of}
 use Rattle.ipc_rules.specs.declared.opening.Opening.{Opening}
 use Rattle.ipc_rules.specs.declared.opening.Opening.TheVariants.{Opens, Shut}
 use Rattle.ipc_rules.specs.declared.state.Channel.{Channel}
 use Rattle.ipc_rules.specs.declared.state.Table.{Table as Channels}
-use Rattle.ipc_rules.specs.declared.answers.CreateAnswer.TheVariants.{Created}
 use Rattle.ipc_rules.proofs.AfterRevoke.{Revokes}
 use Rattle.dispatcher_rules.specs.Answers.{open_number}
 use Rattle.dispatcher_rules.specs.State.{job_at, row_of, no_job, open_job, with_job}
@@ -33,13 +28,12 @@ use Rattle.dispatcher_rules.specs.Close.{end_of, close_job_of}
 use Rattle.dispatcher_rules.specs.declared.state.Dispatcher.{Dispatcher}
 use Rattle.dispatcher_rules.specs.declared.state.Job.{Job}
 use Rattle.dispatcher_rules.specs.declared.state.Tag.{Tag}
-use Rattle.dispatcher_rules.specs.declared.answers.Ending.{Ending}
 use Rattle.dispatcher_rules.specs.declared.answers.JobOpening.{JobOpening}
 use Rattle.dispatcher_rules.specs.declared.answers.JobClosing.{JobClosing}
 use Rattle.dispatcher_rules.specs.declared.answers.OpenAnswer as toOpen
 use Rattle.dispatcher_rules.specs.Bound.{Bound}
 use Rattle.dispatcher_rules.proofs.Ways.{open_ways, close_ways}
-use Rattle.isolation.proofs.Ended.{Ends, channel_ended}
+use Rattle.isolation.proofs.Ended.{channel_ended}
 use Rattle.isolation.proofs.KeptOpen.{both_given_lem}
 use Rattle.isolation.proofs.Places.{other_job, new_job, places_kept}
 use Rattle.tally.specs.Runs.{as_send, as_recv, Made, last, before, if_created, if_opened}

@@ -1,48 +1,25 @@
 -- Registers and releases beside the rows keep it, where the slots counted change as the holds do. Assumes nothing.
-use mathlib.Core.Path.{◌≡◌, refl, sym, ap, ◌∙◌}
-use mathlib.Core.Bool.{Bool, true, false}
+use mathlib.Core.Path.{◌≡◌, sym, ◌∙◌}
 use mathlib.Core.List.{List, [], ◌∷◌}
-use mathlib.Core.Logic.{◌⊎◌, inl, inr, ⊎_elim}
-use Prim.Native.Nat.{ℕ, zero, suc, ◌+◌, ◌-◌, ◌≤◌, ◌<◌}
+use Prim.Native.Nat.{ℕ, ◌+◌, ◌≤◌}
 use native.Mathlib.Omega.{arith}
 use lib.ListN.{length}
-use lib.Seq.{get_or-set_same}
-use Rattle.laws.proofs.Bools.{same?}
-use Rattle.cap.specs.Slot.{vacant_slot, four_vacant, holding}
-use Rattle.cap.specs.Word.{slot_at, words_read}
+use Rattle.cap.specs.Slot.{holding}
 use Rattle.cap.specs.declared.CapId.{CapId}
 use Rattle.cap.specs.declared.slot.Slot.{Slot}
-use Rattle.capslots.specs.Table.{empty_row, row_at, slot_in, with_row, with_slot, Shape}
-use Rattle.capslots.specs.Rows.{row_of, seed_of, drain_of, install_of}
-use Rattle.capslots.specs.Transfer.{moved, transfer_of}
+use Rattle.capslots.specs.Table.{slot_in, Shape}
 use Rattle.capslots.specs.declared.Table.{Table as Rows}
-use Rattle.capslots.specs.declared.Seeded.{Seeded as Seeding}
-use Rattle.capslots.specs.declared.Drained.{Drained}
-use Rattle.capslots.specs.declared.Installed.{Installed as Installing}
-use Rattle.capslots.specs.declared.moves.Transferred.{Transferred as Transferring}
-use Rattle.capslots.specs.declared.answers.InstallAnswer.TheVariants.{Installed}
-use Rattle.capslots.proofs.Places.{new_row, other_row, shape_row, new_slot, other_slot, shape_slot}
-use Rattle.capslots.proofs.Reach.{Reaches}
-use Rattle.capslots.proofs.Ways.{install_ways, drain_ways, transfer_ways}
-use Rattle.ipc_rules.specs.State.{mailbox_live}
-use Rattle.ipc_rules.specs.Sound.{Sound}
-use Rattle.ipc_rules.specs.Holds.{registered, registered_all, released_all, release_of}
-use Rattle.ipc_rules.specs.Views.{hold_count, held_by, held_in, raised_by}
+use Rattle.ipc_rules.specs.Holds.{registered_all, released_all}
+use Rattle.ipc_rules.specs.Views.{hold_count, held_by, held_in}
 use Rattle.ipc_rules.specs.declared.state.Channel.{Channel}
 use Rattle.ipc_rules.specs.declared.state.Table.{Table as Channels}
-use Rattle.ipc_rules.proofs.AfterRegister.{RegisteredIn, registered_in}
-use Rattle.ipc_rules.proofs.AfterReleaseAll.{ReleasedIn, released_in}
-use Rattle.ipc_rules.proofs.Held.{held_steady, raised_few}
+use Rattle.ipc_rules.proofs.AfterRegister.{registered_in}
+use Rattle.ipc_rules.proofs.AfterReleaseAll.{released_in}
+use Rattle.ipc_rules.proofs.Held.{raised_few}
 use Rattle.ipc_rules.proofs.KeepsCalls.{registered_all_kept, released_all_kept}
-use Rattle.joined.specs.Steps.{spawn_of, leave_of, give_of}
-use Rattle.joined.specs.declared.answers.Spawning.{Spawning}
-use Rattle.joined.specs.declared.answers.Leaving.{Leaving}
-use Rattle.joined.specs.declared.answers.Giving.{Giving}
-use Rattle.joined.proofs.Ways.{spawn_ways, leave_ways, give_ways}
-use Rattle.tally.specs.Count.{sum_over, over_slots}
+use Rattle.tally.specs.Count.{over_slots}
 use Rattle.tally.specs.Runs.{CameFrom}
-use Rattle.tally.proofs.Sums.{sum_row, sum_slot}
-use Rattle.tally.proofs.Tallied.{sender_still, Tallied, held_most, held_still, same_slots, few_slots, list_sum}
+use Rattle.tally.proofs.Tallied.{sender_still, Tallied, held_most, held_still, same_slots, few_slots}
 
 -- as many as the list has, at most
 list_most : (t : Channels) (k : ℕ) (xs : List Slot) → held_in t k xs ≤ length xs

@@ -1,13 +1,13 @@
 -- Give, leave, spawn and transfer keep it. Assumes nothing.
 use mathlib.Core.Path.{◌≡◌, refl, sym, ap, ◌∙◌}
-use mathlib.Core.Bool.{Bool, true, false, ◌&&◌}
+use mathlib.Core.Bool.{true, false}
 use mathlib.Core.List.{List, [], ◌∷◌}
-use mathlib.Core.Logic.{◌⊎◌, inl, inr, ⊎_elim}
-use Prim.Native.Nat.{ℕ, zero, suc, ◌+◌, ◌≤◌, ◌<◌}
+use mathlib.Core.Logic.{⊎_elim}
+use Prim.Native.Nat.{ℕ, zero, suc, ◌<◌}
 use native.Mathlib.Omega.{arith}
 use borrow.Author.Tests.{eq-eqb, lt-leb}
 use lib.Dec.{eqb}
-use lib.ListN.{get_or, length}
+use lib.ListN.{get_or}
 use Rattle.laws.specs.Pick.{pick}
 use Rattle.laws.proofs.Bools.{same?}
 use Rattle.laws.proofs.Cases.{not_both}
@@ -17,24 +17,21 @@ use Rattle.cap.specs.Word.{slot_at, words_read}
 use Rattle.cap.specs.declared.CapId.{CapId}
 use Rattle.cap.specs.declared.slot.Slot.{Slot}
 use Rattle.capslots.specs.Table.{empty_row, row_at, slot_in, with_row, with_slot, Shape}
-use Rattle.capslots.specs.Rows.{row_of, seed_of, drain_of, install_of}
-use Rattle.capslots.specs.Transfer.{moved, transfer_of}
+use Rattle.capslots.specs.Rows.{row_of, seed_of, drain_of}
+use Rattle.capslots.specs.Transfer.{transfer_of}
 use Rattle.capslots.specs.declared.Row.{Row}
 use Rattle.capslots.specs.declared.Table.{Table as Rows}
-use Rattle.capslots.specs.declared.Seeded.{Seeded as Seeding}
 use Rattle.capslots.specs.declared.Drained.{Drained}
 use Rattle.capslots.specs.declared.Installed.{Installed as Installing}
 use Rattle.capslots.specs.declared.moves.Transferred.{Transferred as Transferring}
-use Rattle.capslots.specs.declared.answers.InstallAnswer.{InstallAnswer}
 use Rattle.capslots.specs.declared.answers.InstallAnswer.TheVariants.{Installed, BadSlot}
 use Rattle.capslots.proofs.Places.{new_row, other_row, shape_row, new_slot, other_slot, shape_slot}
-use Rattle.capslots.proofs.Reach.{Reaches}
-use Rattle.capslots.proofs.Ways.{seed_ways, install_ways, drain_ways, transfer_ways}
-use Rattle.ipc_rules.specs.Holds.{registered, registered_all, released_all, release_of}
+use Rattle.capslots.proofs.Ways.{install_ways, drain_ways, transfer_ways}
+use Rattle.ipc_rules.specs.Holds.{registered, registered_all, release_of}
 use Rattle.ipc_rules.specs.Views.{held_by, held_in}
 use Rattle.ipc_rules.specs.declared.state.Channel.{Channel}
 use Rattle.ipc_rules.specs.declared.state.Table.{Table as Channels}
-use Rattle.joined.specs.Steps.{vacated, spawned, spawn_of, leave_of, give_of}
+use Rattle.joined.specs.Steps.{vacated, spawn_of, leave_of, give_of}
 use Rattle.joined.specs.declared.answers.SpawnAnswer.TheVariants.{Spawned}
 use Rattle.joined.specs.declared.answers.GiveAnswer.TheVariants.{Given}
 use Rattle.joined.specs.declared.answers.Spawning.{Spawning}

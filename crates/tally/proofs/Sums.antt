@@ -1,13 +1,13 @@
 -- Sums over the slots of all rows: where one slot or one row is another, and where the summed agree. Assumes nothing.
-use mathlib.Core.Path.{◌≡◌, refl, sym, ap, ◌∙◌}
+use mathlib.Core.Path.{◌≡◌, refl, ap}
 use mathlib.Core.List.{List, [], ◌∷◌, map}
 use Prim.Native.Nat.{ℕ, zero, suc, ◌+◌, ◌*◌, ◌≤◌, ◌<◌}
 use native.Mathlib.Nat.{suc-mul}
 use native.Mathlib.Omega.{arith}
-use lib.ListN.{get_or, set, length, replicate}
+use lib.ListN.{get_or, set, length}
 use Rattle.cap.specs.Slot.{vacant_slot}
 use Rattle.cap.specs.declared.slot.Slot.{Slot}
-use Rattle.capslots.specs.Table.{row_at, slot_in, with_row, with_slot, Shape, fresh_table, empty_row}
+use Rattle.capslots.specs.Table.{row_at, slot_in, with_row, with_slot, Shape}
 use Rattle.capslots.specs.declared.Row.{Row}
 use Rattle.capslots.specs.declared.Table.{Table as Rows}
 use Rattle.tally.specs.Count.{sum_over, over_slots}

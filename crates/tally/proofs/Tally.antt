@@ -1,37 +1,34 @@
 -- The theorem: the holds of every live channel are the slots that hold its send id. Assumes nothing.
 use mathlib.Core.Path.{◌≡◌, refl, sym, ap, ◌∙◌}
-use mathlib.Core.Bool.{Bool, true, false}
+use mathlib.Core.Bool.{true, false}
 use mathlib.Core.List.{List, [], ◌∷◌}
-use mathlib.Core.Logic.{◌⊎◌, inl, inr, ⊎_elim}
-use Prim.Native.Nat.{ℕ, zero, suc, ◌≤◌, ◌<◌}
+use mathlib.Core.Logic.{⊎_elim}
+use Prim.Native.Nat.{ℕ, zero, suc, ◌≤◌}
 use native.Mathlib.Omega.{arith}
-use borrow.Author.Tests.{lt-ltb, eq-eqb}
-use lib.Dec.{eqb, ltb}
+use borrow.Author.Tests.{eq-eqb}
 use lib.ListN.{get_or, length, replicate}
 use Rattle.laws.specs.Pick.{pick}
-use Rattle.laws.proofs.Bools.{below?, same?, either}
+use Rattle.laws.proofs.Bools.{same?, either}
 use Rattle.laws.proofs.Cases.{all_pick, not_both}
-use Rattle.cap.specs.Id.{id_of, index_of, generation_of}
+use Rattle.cap.specs.Id.{index_of}
 use Rattle.cap.specs.Rights.{send_right, contains_all}
 use Rattle.cap.specs.Slot.{vacant_slot, four_vacant, holding}
 use Rattle.cap.specs.declared.CapId.{CapId}
 use Rattle.cap.specs.declared.CapRights.{CapRights}
 use Rattle.cap.specs.declared.slot.Slot.{Slot}
-use Rattle.cap.proofs.Ids.{index_of_id, generation_of_id, same_parts}
-use Rattle.cap.proofs.Rights.{send_holds_send, receive_lacks_send}
-use Rattle.capslots.specs.Table.{empty_row, fresh_table, slot_in, Shape}
+use Rattle.cap.proofs.Ids.{same_parts}
+use Rattle.cap.proofs.Rights.{receive_lacks_send}
+use Rattle.capslots.specs.Table.{empty_row, slot_in}
 use Rattle.capslots.specs.Rows.{names_id}
-use Rattle.capslots.specs.declared.Table.{Table as Rows}
 use Rattle.capslots.proofs.Places.{shape_fresh}
-use Rattle.ipc_rules.specs.State.{endpoint_at, endpoint_live, mailbox_live}
-use Rattle.ipc_rules.specs.Sound.{Sound, Ends}
-use Rattle.ipc_rules.specs.Make.{fresh_of, in_range}
-use Rattle.ipc_rules.specs.Opening.{open_of, opening_of, hold_of}
-use Rattle.ipc_rules.specs.Views.{hold_count, held_by}
+use Rattle.ipc_rules.specs.State.{endpoint_at}
+use Rattle.ipc_rules.specs.Sound.{Sound}
+use Rattle.ipc_rules.specs.Make.{in_range}
+use Rattle.ipc_rules.specs.Opening.{opening_of, hold_of}
+use Rattle.ipc_rules.specs.Views.{held_by}
 use Rattle.ipc_rules.specs.declared.opening.Opening.{Opening}
 use Rattle.ipc_rules.specs.declared.opening.Opening.TheVariants.{Opens, Shut}
 use Rattle.ipc_rules.specs.declared.state.Channel.{Channel}
-use Rattle.ipc_rules.specs.declared.state.Endpoint.{Endpoint}
 use Rattle.ipc_rules.specs.declared.state.Mailbox.{Mailbox}
 use Rattle.ipc_rules.specs.declared.state.Payload.{Payload}
 use Rattle.ipc_rules.specs.declared.state.Sizes.{Sizes}
@@ -49,7 +46,7 @@ use Rattle.ipc_rules.proofs.Fresh.{in_range_of, fresh_sound}
 use Rattle.ipc_rules.specs.Create.{create_of}
 use Rattle.ipc_rules.specs.declared.answers.CreateAnswer.{CreateAnswer}
 use Rattle.ipc_rules.specs.declared.answers.CreateAnswer as toCreate
-use Rattle.dispatcher_rules.specs.State.{job_at, no_variant}
+use Rattle.dispatcher_rules.specs.State.{no_variant}
 use Rattle.dispatcher_rules.specs.Bound.{Bound}
 use Rattle.dispatcher_rules.specs.Make.{make_of}
 use Rattle.dispatcher_rules.specs.Open.{open_job_of}
@@ -65,8 +62,7 @@ use Rattle.dispatcher_rules.proofs.Promises.{made_closed}
 use Rattle.dispatcher_rules.proofs.Ways.{all_slotted}
 use Rattle.isolation.proofs.Slots.{names_holding, never_vacant}
 use Rattle.isolation.proofs.Still.{Still, send_still, recv_still, park_still}
-use Rattle.tally.specs.Count.{over_slots, slots_with}
-use Rattle.tally.specs.Runs.{Among, as_send, as_recv, earlier, Made, last, before, if_created, if_opened, Books, Step, spawn, leave, give, create, revoke, send, receive, park, clear, transfer, make, open_for, close, send_by, receive_by, park_by, after, PutsCreated, start, Reached, fresh, then}
+use Rattle.tally.specs.Runs.{Among, as_send, as_recv, earlier, Made, last, before, if_created, if_opened, Books, Step, spawn, leave, give, create, revoke, send, receive, park, clear, transfer, make, open_for, close, send_by, receive_by, park_by, after, PutsCreated, start, fresh, then}
 use Rattle.tally.specs.Tally.{AfterRuns, HoldsAreSlots, TransferKeeps, FarFromCeiling, RunsReady}
 use Rattle.tally.proofs.Sums.{sum_agrees}
 use Rattle.tally.proofs.Tallied.{Tallied, few_slots}

@@ -9,7 +9,7 @@
 --   "every live channel"                         the channel in any mailbox k that is live
 --   "its send id"                                `Tallies` `id`: it opens the mailbox for send, no other does, and a creation answered it
 --   "the number of slots in all rows"            `slots_with`, over the 54 rows of 4 slots
-use Rattle.std.specs.Prelude.{◌≡◌, true, List, ℕ, ◌≤◌, length}
+use Rattle.std.specs.Prelude.{◌≡◌, true, ℕ, ◌≤◌, length}
 use Rattle.cap.specs.Rights.{send_right}
 use Rattle.cap.specs.declared.CapId.{CapId}
 use Rattle.capslots.specs.Table.{Shape}

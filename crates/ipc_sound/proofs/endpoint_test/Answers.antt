@@ -1,6 +1,5 @@
 -- `ipc_sound::endpoint_test` computes `endpoint_test`. Assumes nothing.
 use mathlib.Core.Path.{refl, sym, ◌∙◌}
-use borrow.Author.Tests.{not-true}
 use Rattle.laws.proofs.Cases.{no, cases}
 use Rattle.ipc_sound.specs.SoundTest.{endpoint_test}
 use Rattle.ipc_sound.proofs.endpoint_test.Goals as goal

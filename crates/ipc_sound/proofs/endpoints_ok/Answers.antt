@@ -1,6 +1,5 @@
 -- `ipc_sound::endpoints_ok`: the invariant is the test below `i`. The measure is what is left. Assumes nothing.
 use mathlib.Core.Path.{◌≡◌, ◌∙◌}
-use Prim.Native.Nat.{◌-◌}
 use native.Mathlib.Omega.{arith}
 use lib.ListN.{length}
 use Rattle.laws.proofs.Every.{every_none, every_step, every_done}

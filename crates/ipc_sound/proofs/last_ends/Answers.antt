@@ -1,5 +1,5 @@
 -- `ipc_sound::last_ends`: the invariant is that the last ends below `i` are remembered. The measure is what is left. Assumes nothing.
-use Prim.Native.Nat.{◌≤◌, ◌-◌}
+use Prim.Native.Nat.{◌≤◌}
 use native.Mathlib.Omega.{arith}
 use Rattle.cap.specs.Rights.{send_right, receive_right}
 use Rattle.ipc_sound.proofs.LastEnds.{remembers_none, remembers_more, remembers_all}

@@ -1,6 +1,5 @@
 -- `ipc_sound::mailbox_test` computes `mailbox_test`. Assumes nothing.
 use mathlib.Core.Path.{sym, ◌∙◌}
-use borrow.Author.Tests.{not-true}
 use Rattle.laws.proofs.Cases.{no, cases}
 use Rattle.ipc_sound.specs.SoundTest.{mailbox_test}
 use Rattle.ipc_sound.proofs.mailbox_test.Goals as goal

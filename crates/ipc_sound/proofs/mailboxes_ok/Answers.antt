@@ -1,6 +1,6 @@
 -- `ipc_sound::mailboxes_ok`: the invariant is the test below `k`. The measure is what is left. Assumes nothing.
 use mathlib.Core.Path.{◌∙◌}
-use Prim.Native.Nat.{◌<◌, ◌-◌}
+use Prim.Native.Nat.{◌<◌}
 use native.Mathlib.Omega.{arith}
 use Rattle.laws.proofs.Every.{every_none, every_step, every_done}
 use Rattle.ipc_sound.specs.SoundTest.{mailbox_ok}

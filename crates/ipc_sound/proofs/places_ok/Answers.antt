@@ -1,5 +1,4 @@
 -- `ipc_sound::places_ok`: the invariant is the test below `i`. The measure is what is left. Assumes nothing.
-use Prim.Native.Nat.{◌-◌}
 use native.Mathlib.Omega.{arith}
 use Rattle.laws.proofs.Every.{every_none, every_step, every_done}
 use Rattle.ipc_sound.specs.SoundTest.{place_ok}

@@ -2,7 +2,6 @@
 use mathlib.Core.Path.{◌≡◌, sym, ◌∙◌}
 use mathlib.Core.Bool.{Bool, true, false}
 use Prim.Native.Nat.{◌≤◌}
-use borrow.Author.Tests.{not-true, not-false}
 use Rattle.laws.proofs.Lists.{unmapped}
 use Rattle.ipc_rules.specs.State.{Shape}
 use Rattle.ipc_rules.specs.Make.{in_range}

@@ -1,6 +1,5 @@
 -- `taskcap::free_entry` meets its contract. The loop's invariant: from `i` up the search finds what it finds from 0. Assumes nothing.
 use mathlib.Core.Path.{refl}
-use Prim.Native.Nat.{◌-◌}
 use Rattle.laws.proofs.Search.{searching}
 use Rattle.taskcap.proofs.free_entry.Goals as goal
 

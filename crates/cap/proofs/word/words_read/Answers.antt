@@ -1,6 +1,5 @@
 -- `cap::word::words_read` meets its contract. The loop's invariant: `ok` says of each word passed that it reads. Assumes nothing.
 use mathlib.Core.Path.{refl}
-use Prim.Native.Nat.{◌-◌}
 use borrow.Author.Rules.{rules}
 use Rattle.laws.proofs.Every.{every_none, every_step, every_done}
 use Rattle.cap.proofs.word.words_read.Goals as goal

@@ -2,10 +2,8 @@
 -- row it has come the whole way (`way`), and only the destination's slot is left to decide. Assumes nothing.
 use borrow.Author.Tests.{not-false}
 use mathlib.Core.Path.{sym, ◌∙◌}
-use mathlib.Core.List.{[], ◌∷◌}
 use Prim.Native.Nat.{◌<◌}
 use native.Mathlib.Omega.{arith}
-use types.Run.{miss}
 use Rattle.laws.proofs.Cases.{cases}
 use Rattle.capslots.specs.Transfer.{transfer_of}
 use Rattle.capslots.proofs.Reach.{inside, stopped, Reaches, reaches}

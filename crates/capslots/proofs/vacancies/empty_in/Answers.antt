@@ -1,6 +1,5 @@
 -- `capslots::vacancies::empty_in` meets its contract. The loop's invariant: from `s` up the search finds what it finds from 0. Assumes nothing.
 use mathlib.Core.Path.{refl}
-use Prim.Native.Nat.{◌-◌}
 use Rattle.laws.proofs.Search.{searching}
 use Rattle.capslots.proofs.vacancies.empty_in.Goals as goal
 

@@ -1,7 +1,6 @@
 -- `capslots::vacancies::forget_row` meets its contract. The loop's invariant: the first `s` slots have forgotten. Assumes nothing.
 use mathlib.Core.Path.{◌≡◌, ap}
 use mathlib.Core.List.{List}
-use Prim.Native.Nat.{◌-◌}
 use borrow.Author.Rules.{rules}
 use lib.ListN.{length}
 use Rattle.laws.proofs.Lists.{unmapped}

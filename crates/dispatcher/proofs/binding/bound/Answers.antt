@@ -1,6 +1,5 @@
 -- `dispatcher::binding::bound`: the invariant is the test below `i`. The measure is what is left. Assumes nothing.
 use mathlib.Core.Path.{ap}
-use Prim.Native.Nat.{◌-◌}
 use native.Mathlib.Omega.{arith}
 use borrow.Author.Tests.{le-leb, lt-leb}
 use mathlib.Core.Bool.{◌&&◌}

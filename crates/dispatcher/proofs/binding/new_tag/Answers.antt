@@ -1,7 +1,6 @@
 -- `dispatcher::binding::new_tag`: the invariant is the test below `j`. The measure is what is left. Assumes nothing.
 use mathlib.Core.Path.{ap}
 use mathlib.Core.Bool.{not}
-use Prim.Native.Nat.{◌-◌}
 use native.Mathlib.Omega.{arith}
 use Rattle.laws.proofs.Every.{every_none, every_step, every_done}
 use Rattle.dispatcher_rules.specs.Bound.{alike}

@@ -1,6 +1,5 @@
 -- `ipc_holds::inner::register_four` meets its contract: a turn of `Turns` for each of the four slots. Assumes nothing.
 use mathlib.Core.Path.{◌≡◌, refl}
-use Prim.Native.Nat.{◌-◌}
 use native.Mathlib.Omega.{arith}
 use borrow.Author.Rules.{rules}
 use lib.ListN.{length}

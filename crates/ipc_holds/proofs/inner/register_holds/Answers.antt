@@ -1,6 +1,6 @@
 -- `ipc_holds::inner::register_holds` meets its contract: a turn of `Turns` for each word of the list. Assumes nothing.
 use mathlib.Core.Path.{sym, ap, ◌∙◌}
-use Prim.Native.Nat.{◌-◌, ◌≤◌}
+use Prim.Native.Nat.{◌≤◌}
 use borrow.Author.Rules.{rules}
 use lib.ListN.{length}
 use Rattle.laws.proofs.Cases.{cases, yes}

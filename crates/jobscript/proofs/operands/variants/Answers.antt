@@ -1,6 +1,5 @@
 -- `jobscript::operands::variants` meets its contract. The loop's invariant: the first `i` variants are read. Assumes nothing.
 use mathlib.Core.Path.{refl}
-use Prim.Native.Nat.{◌-◌}
 use borrow.Author.Rules.{rules}
 use Rattle.jobscript.specs.Operands.{firsts}
 use Rattle.jobscript.proofs.Firsts.{firsts_turn, firsts_done}

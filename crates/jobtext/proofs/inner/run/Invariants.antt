@@ -1,5 +1,4 @@
 -- What each turn of `run` keeps, and what falls.
-use Prim.Native.Nat.{◌-◌}
 use lib.ListN.{length}
 use Rattle.jobtext.proofs.Runs.{Going}
 use Rattle.jobtext.proofs.inner.run.Given as goal

@@ -1,7 +1,6 @@
 -- `line::text::fields` meets its contract. The loop's invariant: what stands before `end` is what stood before `at`, and the values passed,
 -- each after its space; and there is room for those that are left. Assumes nothing.
 use mathlib.Core.Path.{◌≡◌, refl}
-use Prim.Native.Nat.{◌-◌}
 use native.Mathlib.Omega.{arith}
 use borrow.Author.Rules.{rules}
 use Rattle.line.proofs.Pieces.{field, no_fields}

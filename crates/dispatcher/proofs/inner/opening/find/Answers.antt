@@ -2,7 +2,6 @@
 -- nothing.
 use mathlib.Core.Path.{refl, sym, ap, ◌∙◌}
 use mathlib.Core.Bool.{not}
-use Prim.Native.Nat.{◌-◌}
 use borrow.Author.Rules.{rules}
 use Rattle.laws.proofs.Search.{search_ends, search_finds, search_goes_on}
 use Rattle.dispatcher.proofs.inner.opening.find.Goals as goal

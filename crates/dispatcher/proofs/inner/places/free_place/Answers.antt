@@ -1,7 +1,6 @@
 -- `dispatcher::inner::places::free_place` meets its contract. The loop's invariant: from `p` up the search finds what it finds from 0.
 -- Assumes nothing.
 use mathlib.Core.Path.{refl}
-use Prim.Native.Nat.{◌-◌}
 use Rattle.laws.proofs.Search.{searching}
 use Rattle.dispatcher.proofs.inner.places.free_place.Goals as goal
 

@@ -1,6 +1,5 @@
 -- `ipc_life::inner::creation::free_endpoint` meets its contract. The loop's invariant: from `i` up the search finds what it finds from the start. Assumes nothing.
 use mathlib.Core.Path.{refl, sym, ◌∙◌}
-use Prim.Native.Nat.{◌-◌}
 use native.Mathlib.Omega.{arith}
 use borrow.Author.Rules.{rules}
 use Rattle.laws.proofs.Search.{past, here, next}

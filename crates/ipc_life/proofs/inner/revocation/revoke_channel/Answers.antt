@@ -1,7 +1,7 @@
 -- `ipc_life::inner::revocation::revoke_channel` meets its contract. The first loop's invariant: the first `j` endpoints are killed where they are ends of
 -- mailbox k; the second's: the first `p` places of its ring are wiped. Nothing else of the table has changed. Assumes nothing.
 use mathlib.Core.Path.{◌≡◌, refl, sym, ◌∙◌}
-use Prim.Native.Nat.{ℕ, ◌+◌, ◌*◌, ◌-◌}
+use Prim.Native.Nat.{ℕ, ◌+◌, ◌*◌}
 use native.Mathlib.Numerals.{add-one}
 use native.Mathlib.Omega.{arith}
 use borrow.Author.Rules.{rules}
