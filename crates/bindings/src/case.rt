@@ -54,13 +54,11 @@ fn shifted_in(word: u64, byte: u8) -> u64 {
 
 // The words that `bytes` hold, for as many as there is room.
 pub(crate) fn read_words(bytes: &[u8], held: &mut [u64]) {
-    let mut i = 0;
-    while i < bytes.len() {
+    for i in 0..bytes.len() {
         let k = i / 8;
         if k >= held.len() {
             return;
         }
         held[k] = shifted_in(held[k], bytes[i]);
-        i += 1;
     }
 }

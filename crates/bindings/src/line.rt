@@ -1,46 +1,53 @@
-// Lines of decimal numbers on standard output.
+// Lines of decimal numbers on standard output. A write that fails is not told.
 use cap::Slot;
-use libc::STDOUT_FILENO;
 use manifest::{BindAnswer, Binding};
 
-fn value(n: u64) {
-    io::write_all(STDOUT_FILENO, b" ");
-    io::print_decimal(STDOUT_FILENO, n);
+fn text<P: Print>(to: &P, bytes: &[u8]) {
+    let _ = to.write_all(bytes);
 }
 
-fn end() {
-    io::write_all(STDOUT_FILENO, b"\n");
+fn number<P: Print>(to: &P, n: u64) {
+    let _ = to.print(n);
 }
 
-fn place(slot: Slot) {
+fn value<P: Print>(to: &P, n: u64) {
+    text(to, b" ");
+    number(to, n);
+}
+
+fn end<P: Print>(to: &P) {
+    text(to, b"\n");
+}
+
+fn place<P: Print>(to: &P, slot: Slot) {
     if slot.present {
-        value(1);
-        value(slot.id.raw as u64);
+        value(to, 1);
+        value(to, slot.id.raw as u64);
     } else {
-        value(0);
+        value(to, 0);
     }
 }
 
-fn fault(slot: usize, index: u8) {
-    value(slot as u64);
-    value(index as u64);
+fn fault<P: Print>(to: &P, slot: usize, index: u8) {
+    value(to, slot as u64);
+    value(to, index as u64);
 }
 
 // The values that an answer shows.
-fn values(answer: BindAnswer, slots: [Slot; 4]) {
+fn values<P: Print>(to: &P, answer: BindAnswer, slots: [Slot; 4]) {
     match answer {
         BindAnswer::Bound => {
-            place(slots[0]);
-            place(slots[1]);
-            place(slots[2]);
-            place(slots[3]);
+            place(to, slots[0]);
+            place(to, slots[1]);
+            place(to, slots[2]);
+            place(to, slots[3]);
         }
         BindAnswer::NoSuchCapability { slot, index, held } => {
-            fault(slot, index);
-            value(held as u64);
+            fault(to, slot, index);
+            value(to, held as u64);
         }
-        BindAnswer::PacketPoolRequired { slot, index } => fault(slot, index),
-        BindAnswer::HeldVacant { slot, index } => fault(slot, index),
+        BindAnswer::PacketPoolRequired { slot, index } => fault(to, slot, index),
+        BindAnswer::HeldVacant { slot, index } => fault(to, slot, index),
         BindAnswer::BadWord => {}
     }
 }
@@ -81,16 +88,16 @@ pub(crate) fn same(a: Binding, b: Binding) -> bool {
     answers & first & second
 }
 
-pub(crate) fn write(binding: Binding) {
+pub(crate) fn write<P: Print>(to: &P, binding: Binding) {
     let answer = binding.answer;
     let slots = binding.slots;
-    io::print_decimal(STDOUT_FILENO, answer.number() as u64);
-    values(answer, slots);
-    end();
+    number(to, answer.number() as u64);
+    values(to, answer, slots);
+    end(to);
 }
 
-pub(crate) fn write_bad(at: u64) {
-    io::write_all(STDOUT_FILENO, b"bad");
-    value(at);
-    end();
+pub(crate) fn write_bad<P: Print>(to: &P, at: u64) {
+    text(to, b"bad");
+    value(to, at);
+    end(to);
 }

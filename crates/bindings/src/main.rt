@@ -4,8 +4,8 @@
 
 ghost use Rattle.std.specs.Prelude.{◌≤◌, length};
 
-use libc::STDIN_FILENO;
 use manifest::AgentEntry;
+use std::io::Read;
 
 mod case;
 mod line;
@@ -21,34 +21,40 @@ enum Turn {
 
 // Writes what bind answers to the words and, where they all read, to the records that they stand for: one line where the two agree. A
 // second one is expected nowhere.
-fn answer_both(entry: AgentEntry, held: &[u64])
+fn answer_both<P: Print>(to: &P, entry: AgentEntry, held: &[u64])
     requires { length held.now ≤ 255 }
 {
     let by_words = manifest::bind(entry, held);
-    line::write(by_words);
+    line::write(to, by_words);
     if cap::words_read(held) {
         let by_slots = slots::bind(entry, slots::records(held), held.len());
         if !line::same(by_words, by_slots) {
-            line::write(by_slots);
+            line::write(to, by_slots);
         }
     }
 }
 
 // Reads the held words and answers, or says that they are cut short.
-fn answer(head: [u8; case::HEAD], bytes: &mut [u8], held: &mut [u64]) -> bool
+fn answer<R: Read, P: Print>(
+    reader: &mut R,
+    to: &P,
+    head: [u8; case::HEAD],
+    bytes: &mut [u8],
+    held: &mut [u64],
+) -> bool
     requires { length held.old ≤ 255 }
 {
-    if io::read_full(STDIN_FILENO, bytes) < bytes.len() {
+    if standard::take(reader, bytes).got < bytes.len() {
         return false;
     }
     case::read_words(bytes, held);
-    answer_both(case::entry(head), held);
+    answer_both(to, case::entry(head), held);
     true
 }
 
-fn answer_one() -> Turn {
+fn answer_one<R: Read, P: Print>(reader: &mut R, to: &P) -> Turn {
     let mut head = [0u8; case::HEAD];
-    let got = io::read_full(STDIN_FILENO, &mut head);
+    let got = standard::take(reader, &mut head).got;
     if got == 0 {
         return Turn::Ended;
     }
@@ -59,19 +65,20 @@ fn answer_one() -> Turn {
     let size = 8 * count;
     let mut bytes = [0u8; case::MOST_BYTES];
     let mut held = [0u64; case::MOST_HELD];
-    if answer(head, &mut bytes[..size], &mut held[..count]) {
+    if answer(reader, to, head, &mut bytes[..size], &mut held[..count]) {
         return Turn::Answered((case::HEAD + size) as u16);
     }
     Turn::Damaged
 }
 
 // A proved loop has to end, and nothing says that the input does. So turns are counted down, from a number that no run uses up.
-fn main() {
+fn main(rt: HostRuntime) {
+    let mut reader = rt.stdin();
     let mut at: u64 = 0;
     let mut turns = u32::MAX;
     while turns > 0 {
         turns -= 1;
-        match answer_one() {
+        match answer_one(&mut reader, &rt) {
             Turn::Answered(size) => {
                 at += size as u64;
             }
@@ -79,7 +86,7 @@ fn main() {
                 return;
             }
             Turn::Damaged => {
-                line::write_bad(at);
+                line::write_bad(&rt, at);
                 return;
             }
         }

@@ -13,10 +13,8 @@ pub(crate) fn records(held: &[u64]) -> [Slot; MOST_HELD] {
         id: CapId { raw: 0 },
     };
     let mut slots = [vacant; MOST_HELD];
-    let mut i = 0;
-    while i < MOST_HELD {
+    for i in 0..MOST_HELD {
         slots[i] = cap::slot_at(held, i);
-        i += 1;
     }
     slots
 }

@@ -1,18 +1,17 @@
 // Lines of words and decimal numbers on standard output. Each function answers whether it was written whole.
 use cap::Slot;
 use ipc_rules::state::{Message, Waiter};
-use libc::STDOUT_FILENO;
 
-fn word(text: &[u8]) -> bool {
-    io::write_all(STDOUT_FILENO, text)
+fn word<P: Print>(to: &P, text: &[u8]) -> bool {
+    to.write_all(text).is_ok()
 }
 
-fn value(n: u64) -> bool {
-    word(b" ") & io::print_decimal(STDOUT_FILENO, n)
+fn value<P: Print>(to: &P, n: u64) -> bool {
+    word(to, b" ") & to.print(n).is_ok()
 }
 
-fn end() -> bool {
-    word(b"\n")
+fn end<P: Print>(to: &P) -> bool {
+    word(to, b"\n")
 }
 
 pub(crate) fn flag(yes: bool) -> u64 {
@@ -23,45 +22,50 @@ pub(crate) fn flag(yes: bool) -> u64 {
 }
 
 // What is shown, and its number.
-pub(crate) fn field(name: &[u8], n: u64) -> bool {
-    word(name) & value(n) & end()
+pub(crate) fn field<P: Print>(to: &P, name: &[u8], n: u64) -> bool {
+    word(to, name) & value(to, n) & end(to)
 }
 
 // The same of the i-th of a table.
-pub(crate) fn field_of(table: &[u8], i: usize, name: &[u8], n: u64) -> bool {
-    word(table) & value(i as u64) & field(name, n)
+pub(crate) fn field_of<P: Print>(to: &P, table: &[u8], i: usize, name: &[u8], n: u64) -> bool {
+    word(to, table) & value(to, i as u64) & field(to, name, n)
 }
 
-fn waiting(w: Waiter) -> bool {
+fn waiting<P: Print>(to: &P, w: Waiter) -> bool {
     if w.present {
-        return value(1) & value(w.task.slot as u64) & value(w.task.epoch as u64);
+        return value(to, 1) & value(to, w.task.slot as u64) & value(to, w.task.epoch as u64);
     }
-    value(0)
+    value(to, 0)
 }
 
-pub(crate) fn waiter(i: usize, w: Waiter) -> bool {
-    word(b"mailbox") & value(i as u64) & word(b" waiter") & waiting(w) & end()
+pub(crate) fn waiter<P: Print>(to: &P, i: usize, w: Waiter) -> bool {
+    word(to, b"mailbox") & value(to, i as u64) & word(to, b" waiter") & waiting(to, w) & end(to)
 }
 
-pub(crate) fn place(i: usize, p: usize, m: Message) -> bool {
-    word(b"mailbox")
-        & value(i as u64)
-        & word(b" place")
-        & value(p as u64)
-        & value(m.tag as u64)
-        & value(m.a)
-        & value(m.b)
-        & value(m.row as u64)
-        & end()
+pub(crate) fn place<P: Print>(to: &P, i: usize, p: usize, m: Message) -> bool {
+    word(to, b"mailbox")
+        & value(to, i as u64)
+        & word(to, b" place")
+        & value(to, p as u64)
+        & value(to, m.tag as u64)
+        & value(to, m.a)
+        & value(to, m.b)
+        & value(to, m.row as u64)
+        & end(to)
 }
 
-fn held(x: Slot) -> bool {
+fn held<P: Print>(to: &P, x: Slot) -> bool {
     if x.present {
-        return value(1) & value(x.id.raw as u64);
+        return value(to, 1) & value(to, x.id.raw as u64);
     }
-    value(0)
+    value(to, 0)
 }
 
-pub(crate) fn slot(r: usize, s: usize, x: Slot) -> bool {
-    word(b"row") & value(r as u64) & word(b" slot") & value(s as u64) & held(x) & end()
+pub(crate) fn slot<P: Print>(to: &P, r: usize, s: usize, x: Slot) -> bool {
+    word(to, b"row")
+        & value(to, r as u64)
+        & word(to, b" slot")
+        & value(to, s as u64)
+        & held(to, x)
+        & end(to)
 }

@@ -15,93 +15,93 @@ pub fn fresh() -> Table {
 }
 
 // With 20 the next calls are made on the table of sizes 0, 0, 1 that comes back.
-pub fn new(w: &[u64]) -> Table {
+pub fn new<P: Print>(to: &P, w: &[u64]) -> Table {
     let x = ipc::new(size(w, 0), size(w, 1), size(w, 2));
     let a = x.answer;
-    print::answer(a.shown());
+    print::answer(to, a.shown());
     x.table
 }
 
-fn create(t: Table, w: &[u64]) -> Table {
+fn create<P: Print>(to: &P, t: Table, w: &[u64]) -> Table {
     let x = if at(w, 0) == 1 {
         ipc::create_channel_ephemeral(t)
     } else {
         ipc::create_channel(t)
     };
     let a = x.answer;
-    print::answer(a.shown());
+    print::answer(to, a.shown());
     x.table
 }
 
-fn send(t: Table, w: &[u64]) -> Table {
+fn send<P: Print>(to: &P, t: Table, w: &[u64]) -> Table {
     let x = ipc::send(t, id(w, 0), payload(rest(w, 1)), size(w, 4));
     let a = x.answer;
-    print::answer(a.shown());
+    print::answer(to, a.shown());
     x.table
 }
 
-fn receive(t: Table, w: &[u64]) -> Table {
+fn receive<P: Print>(to: &P, t: Table, w: &[u64]) -> Table {
     let x = ipc::try_recv(t, id(w, 0));
     let a = x.answer;
-    print::answer(a.shown());
+    print::answer(to, a.shown());
     x.table
 }
 
-fn park(t: Table, w: &[u64]) -> Table {
+fn park<P: Print>(to: &P, t: Table, w: &[u64]) -> Table {
     let x = ipc::park(t, id(w, 0), task(rest(w, 1)));
     let a = x.answer;
-    print::answer(a.shown());
+    print::answer(to, a.shown());
     x.table
 }
 
-pub fn revoke(t: Table, w: &[u64]) -> Table {
+pub fn revoke<P: Print>(to: &P, t: Table, w: &[u64]) -> Table {
     let x = ipc::revoke_channel(t, id(w, 0));
     let a = x.answer;
-    print::answer(a.shown());
+    print::answer(to, a.shown());
     x.table
 }
 
-fn register(t: Table, w: &[u64]) -> Table {
+fn register<P: Print>(to: &P, t: Table, w: &[u64]) -> Table {
     let x = ipc::register_holds(t, w);
     let a = x.answer;
-    print::answer(a.shown());
+    print::answer(to, a.shown());
     x.table
 }
 
-pub fn release(t: Table, w: &[u64]) -> Table {
+pub fn release<P: Print>(to: &P, t: Table, w: &[u64]) -> Table {
     let x = ipc::release_holds(t, four(w));
     let a = x.answer;
     let woken = x.waiters;
-    print::answer(a.shown(woken));
+    print::answer(to, a.shown(woken));
     x.table
 }
 
-fn clear_waiter(t: Table, w: &[u64]) -> Table {
+fn clear_waiter<P: Print>(to: &P, t: Table, w: &[u64]) -> Table {
     let x = ipc::clear_waiter(t, task(w));
     let a = x.answer;
-    print::answer(a.shown());
+    print::answer(to, a.shown());
     x.table
 }
 
-fn note(op: u8, t: Table) -> Table {
+fn note<P: Print>(to: &P, op: u8, t: Table) -> Table {
     let x = if op == op::NOTE_AUTHORITY {
         ipc::note_authority_refusal(t)
     } else {
         ipc::note_state_refusal(t)
     };
     let a = x.answer;
-    print::answer(a.shown());
+    print::answer(to, a.shown());
     x.table
 }
 
-fn queued(t: Table, w: &[u64]) {
+fn queued<P: Print>(to: &P, t: Table, w: &[u64]) {
     let a = ipc::queued(t, id(w, 0));
-    print::answer(a.shown());
+    print::answer(to, a.shown());
 }
 
-pub fn holders(t: Table, w: &[u64]) {
+pub fn holders<P: Print>(to: &P, t: Table, w: &[u64]) {
     let a = ipc::send_holders(t, id(w, 0));
-    print::answer(a.shown());
+    print::answer(to, a.shown());
 }
 
 // What an id is tried for, by a number.
@@ -114,41 +114,41 @@ fn asked(n: u64) -> Asked {
     }
 }
 
-fn why_shut(t: Table, w: &[u64]) {
+fn why_shut<P: Print>(to: &P, t: Table, w: &[u64]) {
     let a = ipc::why_shut(t, id(w, 1), asked(at(w, 0)));
-    print::answer(a.shown());
+    print::answer(to, a.shown());
 }
 
-pub fn counts(t: Table) {
+pub fn counts<P: Print>(to: &P, t: Table) {
     let a = ipc::refusals(t);
-    print::answer(a.shown());
+    print::answer(to, a.shown());
 }
 
 // The calls that may change the table.
-pub fn call(op: u8, t: Table, w: &[u64]) -> Table {
+pub fn call<P: Print>(to: &P, op: u8, t: Table, w: &[u64]) -> Table {
     match op {
-        op::NEW => new(w),
-        op::CREATE => create(t, w),
-        op::SEND => send(t, w),
-        op::RECEIVE => receive(t, w),
-        op::PARK => park(t, w),
-        op::REVOKE => revoke(t, w),
-        op::REGISTER => register(t, w),
-        op::RELEASE => release(t, w),
-        op::CLEAR_WAITER => clear_waiter(t, w),
-        op::NOTE_AUTHORITY | op::NOTE_STATE => note(op, t),
+        op::NEW => new(to, w),
+        op::CREATE => create(to, t, w),
+        op::SEND => send(to, t, w),
+        op::RECEIVE => receive(to, t, w),
+        op::PARK => park(to, t, w),
+        op::REVOKE => revoke(to, t, w),
+        op::REGISTER => register(to, t, w),
+        op::RELEASE => release(to, t, w),
+        op::CLEAR_WAITER => clear_waiter(to, t, w),
+        op::NOTE_AUTHORITY | op::NOTE_STATE => note(to, op, t),
         _ => broken::set(op, t, w),
     }
 }
 
 // Those that leave it as it is.
-pub fn look(op: u8, t: Table, w: &[u64]) {
+pub fn look<P: Print>(to: &P, op: u8, t: Table, w: &[u64]) {
     match op {
-        op::QUEUED => queued(t, w),
-        op::HOLDERS => holders(t, w),
-        op::COUNTS => counts(t),
-        WHY_SHUT => why_shut(t, w),
-        broken::LOOK => broken::look(t.counters.next_gen, t.sizes),
+        op::QUEUED => queued(to, t, w),
+        op::HOLDERS => holders(to, t, w),
+        op::COUNTS => counts(to, t),
+        WHY_SHUT => why_shut(to, t, w),
+        broken::LOOK => broken::look(to, t.counters.next_gen, t.sizes),
         _ => {}
     }
 }

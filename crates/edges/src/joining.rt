@@ -16,41 +16,44 @@ fn paired(channels: Channels, rows: Rows) -> Both {
     Both { channels, rows }
 }
 
-fn spawn(b: Both, w: &[u64]) -> Both {
+fn spawn<P: Print>(to: &P, b: Both, w: &[u64]) -> Both {
     let x = joined::spawn(b.channels, b.rows, size(w, 0), rest(w, 1));
     let a = x.answer;
     let waiters = x.waiters;
-    print::answer(a.shown(waiters));
+    print::answer(to, a.shown(waiters));
     paired(x.channels, x.rows)
 }
 
-fn leave(b: Both, w: &[u64]) -> Both {
+fn leave<P: Print>(to: &P, b: Both, w: &[u64]) -> Both {
     let x = joined::leave(b.channels, b.rows, size(w, 0));
     let a = x.answer;
     let waiters = x.waiters;
-    print::answer(a.shown(waiters));
+    print::answer(to, a.shown(waiters));
     paired(x.channels, x.rows)
 }
 
-fn give(b: Both, w: &[u64]) -> Both {
+fn give<P: Print>(to: &P, b: Both, w: &[u64]) -> Both {
     let x = joined::give(b.channels, b.rows, size(w, 0), size(w, 1), id(w, 2));
     let a = x.answer;
-    print::answer(a.shown());
+    print::answer(to, a.shown());
     paired(x.channels, x.rows)
 }
 
 // A call on one of the two, or on none.
-fn single(op: u8, b: Both, w: &[u64]) -> Both {
-    channels::look(op, b.channels, w);
-    paired(channels::call(op, b.channels, w), rows::call(op, b.rows, w))
+fn single<P: Print>(to: &P, op: u8, b: Both, w: &[u64]) -> Both {
+    channels::look(to, op, b.channels, w);
+    paired(
+        channels::call(to, op, b.channels, w),
+        rows::call(to, op, b.rows, w),
+    )
 }
 
-pub(crate) fn call(op: u8, b: Both, w: &[u64]) -> Both {
+pub(crate) fn call<P: Print>(to: &P, op: u8, b: Both, w: &[u64]) -> Both {
     match op {
-        op::SPAWN => spawn(b, w),
-        op::LEAVE => leave(b, w),
-        op::GIVE => give(b, w),
-        _ => single(op, b, w),
+        op::SPAWN => spawn(to, b, w),
+        op::LEAVE => leave(to, b, w),
+        op::GIVE => give(to, b, w),
+        _ => single(to, op, b, w),
     }
 }
 

@@ -8,20 +8,19 @@ use edgescript::{operands, print, script};
 
 mod joining;
 
-fn main() {
+fn main(rt: HostRuntime) {
+    let mut reader = rt.stdin();
     let mut both = joining::fresh();
-    let mut left = script::MOST_CALLS;
-    while left > 0 {
-        left -= 1;
+    for _ in 0..script::MOST_CALLS {
         let mut words = [0u64; script::ROOM];
-        let n = script::call(&mut words);
+        let n = script::call(&mut reader, &rt, &mut words);
         if n == 0 {
             return;
         }
         let line = &words[..n];
         let op = operands::byte(line, 0);
         let w = operands::rest(line, 1);
-        both = joining::call(op, both, w);
-        print::end();
+        both = joining::call(&rt, op, both, w);
+        print::end(&rt);
     }
 }

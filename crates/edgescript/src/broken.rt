@@ -107,9 +107,9 @@ pub fn set(op: u8, t: Table, w: &[u64]) -> Table {
 }
 
 // Next generation, m, e and d.
-pub fn look(next: u16, z: Sizes) {
-    print::value(next as u64);
-    print::value(z.mailboxes as u64);
-    print::value(z.endpoints as u64);
-    print::value(z.depth as u64);
+pub fn look<P: Print>(to: &P, next: u16, z: Sizes) {
+    print::value(to, next as u64);
+    print::value(to, z.mailboxes as u64);
+    print::value(to, z.endpoints as u64);
+    print::value(to, z.depth as u64);
 }

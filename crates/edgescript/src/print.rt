@@ -1,50 +1,52 @@
-// Answers on standard output, as document 01's log shows them: a space before each number.
+// Answers on standard output, as document 01's log shows them: a space before each number. A write that fails is not told: what is printed
+// is compared with what is expected.
 use cap::Slot;
 use ipc_rules::state::Refusals;
-use libc::STDOUT_FILENO;
 use shown::Shown;
 
-pub fn value(n: u64) {
-    io::write_all(STDOUT_FILENO, b" ");
-    io::print_decimal(STDOUT_FILENO, n);
+pub fn text<P: Print>(to: &P, bytes: &[u8]) {
+    let _ = to.write_all(bytes);
 }
 
-pub fn end() {
-    io::write_all(STDOUT_FILENO, b"\n");
+pub fn value<P: Print>(to: &P, n: u64) {
+    text(to, b" ");
+    let _ = to.print(n);
+}
+
+pub fn end<P: Print>(to: &P) {
+    text(to, b"\n");
 }
 
 // The number, and the values that are shown.
-pub fn answer(s: Shown) {
-    value(s.number as u64);
-    let mut i: usize = 0;
-    while i < 12 {
+pub fn answer<P: Print>(to: &P, s: Shown) {
+    value(to, s.number as u64);
+    for i in 0..12 {
         if i < s.count {
-            value(s.values[i]);
+            value(to, s.values[i]);
         }
-        i += 1;
     }
 }
 
 // 0, or 1 and the id.
-fn slot(s: Slot) {
+fn slot<P: Print>(to: &P, s: Slot) {
     if s.present {
-        value(1);
-        value(s.id.raw as u64);
+        value(to, 1);
+        value(to, s.id.raw as u64);
     } else {
-        value(0);
+        value(to, 0);
     }
 }
 
-pub fn slots(four: [Slot; 4]) {
-    slot(four[0]);
-    slot(four[1]);
-    slot(four[2]);
-    slot(four[3]);
+pub fn slots<P: Print>(to: &P, four: [Slot; 4]) {
+    slot(to, four[0]);
+    slot(to, four[1]);
+    slot(to, four[2]);
+    slot(to, four[3]);
 }
 
 // Authority, full, state.
-pub fn counts(r: Refusals) {
-    value(r.authority as u64);
-    value(r.full as u64);
-    value(r.state as u64);
+pub fn counts<P: Print>(to: &P, r: Refusals) {
+    value(to, r.authority as u64);
+    value(to, r.full as u64);
+    value(to, r.state as u64);
 }

@@ -1,7 +1,8 @@
 // The script on standard input, read a byte at a time.
-ghost use Rattle.io.specs.Counts.{IsPrefixLen};
+ghost use Rattle.std.specs.Prelude.{◌≡◌, ◌≤◌, length, take};
 
-use libc::{STDIN_FILENO, STDOUT_FILENO};
+use crate::print;
+use std::io;
 
 // The most numbers that a line has.
 pub const ROOM: usize = 12;
@@ -17,28 +18,27 @@ const MOST_DIGITS: u32 = 21;
 // A u64 without its last digit is below this, and ten times that is a u64 too.
 const SHIFTED: u64 = 1844674407370955162;
 
-// The next byte, 0 where there is none.
-fn byte() -> u8 {
+// The next byte, 0 where there is none or the read fails.
+fn byte<R: io::Read>(reader: &mut R) -> u8 {
     let mut one = [0u8; 1];
-    io::read_full(STDIN_FILENO, &mut one);
-    one[0]
+    match reader.read(&mut one) {
+        Ok(1) => one[0],
+        _ => 0,
+    }
 }
 
-fn copy(c: u8) {
-    let one = [c];
-    io::write_all(STDOUT_FILENO, &one);
+fn copy<P: Print>(to: &P, c: u8) {
+    print::text(to, &[c]);
 }
 
 // Copies the text up to the next colon, headings and empty lines with it, and says whether there is one.
-fn call_follows() -> bool {
-    let mut left = MOST_BYTES;
-    while left > 0 {
-        left -= 1;
-        let c = byte();
+fn call_follows<R: io::Read, P: Print>(reader: &mut R, to: &P) -> bool {
+    for _ in 0..MOST_BYTES {
+        let c = byte(reader);
         if c == 0 {
             return false;
         }
-        copy(c);
+        copy(to, c);
         if c == b':' {
             return true;
         }
@@ -63,12 +63,10 @@ struct Read {
 }
 
 // Reads a number with the space or the line's end that follows it. A digit's byte is 48 and the digit.
-fn number() -> Read {
+fn number<R: io::Read>(reader: &mut R) -> Read {
     let mut value: u64 = 0;
-    let mut left = MOST_DIGITS;
-    while left > 0 {
-        left -= 1;
-        let c = byte();
+    for _ in 0..MOST_DIGITS {
+        let c = byte(reader);
         if (c < b'0') | (c > b'9') {
             return Read {
                 value,
@@ -81,13 +79,14 @@ fn number() -> Read {
 }
 
 // Reads the numbers after the colon, each after a space, for as many as there is room, and says how many there are.
-fn numbers(room: &mut [u64]) -> usize
-    ensures { IsPrefixLen result room.new }
+fn numbers<R: io::Read>(reader: &mut R, room: &mut [u64]) -> usize
+    ensures in_bounds { result ≤ length room.new }
+    ensures prefix { result ≡ length (take result room.new) }
 {
-    byte();
+    byte(reader);
     let mut n: usize = 0;
     while n < room.len() {
-        let read = number();
+        let read = number(reader);
         room[n] = read.value;
         n += 1;
         if read.last {
@@ -98,11 +97,12 @@ fn numbers(room: &mut [u64]) -> usize
 }
 
 // Copies the text up to the next call and reads the call's numbers. Says how many there are, 0 where no call is left.
-pub fn call(room: &mut [u64]) -> usize
-    ensures { IsPrefixLen result room.new }
+pub fn call<R: io::Read, P: Print>(reader: &mut R, to: &P, room: &mut [u64]) -> usize
+    ensures in_bounds { result ≤ length room.new }
+    ensures prefix { result ≡ length (take result room.new) }
 {
-    if call_follows() {
-        return numbers(room);
+    if call_follows(reader, to) {
+        return numbers(reader, room);
     }
     0
 }

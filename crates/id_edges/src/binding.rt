@@ -25,35 +25,35 @@ fn entry(w: &[u64]) -> AgentEntry {
     }
 }
 
-fn fault(slot: usize, index: u8) {
-    print::value(slot as u64);
-    print::value(index as u64);
+fn fault<P: Print>(to: &P, slot: usize, index: u8) {
+    print::value(to, slot as u64);
+    print::value(to, index as u64);
 }
 
 // The answer's number, what a refusal shows, and the four places.
-fn bound(b: Binding) {
+fn bound<P: Print>(to: &P, b: Binding) {
     let a = b.answer;
-    print::value(a.number() as u64);
+    print::value(to, a.number() as u64);
     match a {
         BindAnswer::NoSuchCapability { slot, index, held } => {
-            fault(slot, index);
-            print::value(held as u64);
+            fault(to, slot, index);
+            print::value(to, held as u64);
         }
-        BindAnswer::PacketPoolRequired { slot, index } => fault(slot, index),
-        BindAnswer::HeldVacant { slot, index } => fault(slot, index),
+        BindAnswer::PacketPoolRequired { slot, index } => fault(to, slot, index),
+        BindAnswer::HeldVacant { slot, index } => fault(to, slot, index),
         _ => {}
     }
     let slots = b.slots;
-    print::slots(slots);
+    print::slots(to, slots);
 }
 
-pub(crate) fn call(op: u8, w: &[u64]) {
+pub(crate) fn call<P: Print>(to: &P, op: u8, w: &[u64]) {
     match op {
-        op::BIND => bound(manifest::bind(entry(w), rest(w, 5))),
-        op::BIND_LENT => bound(lending::bind(entry(w), rest(w, 5))),
-        op::NOTE_AUTHORITY_LENT => print::counts(lending::note_authority(refusals(w))),
-        op::NOTE_STATE_LENT => print::counts(lending::note_state(refusals(w))),
-        op::WRAP => wrap::edges(),
+        op::BIND => bound(to, manifest::bind(entry(w), rest(w, 5))),
+        op::BIND_LENT => bound(to, lending::bind(entry(w), rest(w, 5))),
+        op::NOTE_AUTHORITY_LENT => print::counts(to, lending::note_authority(refusals(w))),
+        op::NOTE_STATE_LENT => print::counts(to, lending::note_state(refusals(w))),
+        op::WRAP => wrap::edges(to),
         _ => {}
     }
 }

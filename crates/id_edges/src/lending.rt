@@ -76,10 +76,10 @@ pub(crate) fn note_state(mut r: Refusals) -> Refusals
     r
 }
 
-fn register(t: Table, w: &[u64]) -> Table {
+fn register<P: Print>(to: &P, t: Table, w: &[u64]) -> Table {
     let x = register_first(t, records(w), at_most(w.len()));
     let a = x.answer;
-    print::answer(a.shown());
+    print::answer(to, a.shown());
     x.table
 }
 
@@ -88,9 +88,9 @@ pub(crate) fn bind(entry: AgentEntry, w: &[u64]) -> Binding {
 }
 
 // A call on the channel table, over references or not.
-pub(crate) fn call(op: u8, t: Table, w: &[u64]) -> Table {
+pub(crate) fn call<P: Print>(to: &P, op: u8, t: Table, w: &[u64]) -> Table {
     match op {
-        op::REGISTER_LENT => register(t, w),
-        _ => channels::call(op, t, w),
+        op::REGISTER_LENT => register(to, t, w),
+        _ => channels::call(to, op, t, w),
     }
 }

@@ -12,26 +12,25 @@ mod mints;
 mod op;
 mod wrap;
 
-fn main() {
+fn main(rt: HostRuntime) {
+    let mut reader = rt.stdin();
     let mut table = channels::fresh();
     let mut tasks = taskcap::new();
     let mut irqs = irqcap::new();
-    let mut left = script::MOST_CALLS;
-    while left > 0 {
-        left -= 1;
+    for _ in 0..script::MOST_CALLS {
         let mut words = [0u64; script::ROOM];
-        let n = script::call(&mut words);
+        let n = script::call(&mut reader, &rt, &mut words);
         if n == 0 {
             return;
         }
         let line = &words[..n];
         let op = operands::byte(line, 0);
         let w = operands::rest(line, 1);
-        tasks = mints::tasks(op, tasks, w);
-        irqs = mints::irqs(op, irqs, w);
-        channels::look(op, table, w);
-        table = lending::call(op, table, w);
-        binding::call(op, w);
-        print::end();
+        tasks = mints::tasks(&rt, op, tasks, w);
+        irqs = mints::irqs(&rt, op, irqs, w);
+        channels::look(&rt, op, table, w);
+        table = lending::call(&rt, op, table, w);
+        binding::call(&rt, op, w);
+        print::end(&rt);
     }
 }

@@ -10,34 +10,32 @@ use taskcap::Table as Tasks;
 // Entry 0 of a fresh table minted and ended 65,534 times.
 fn worn() -> Tasks {
     let mut t = taskcap::new();
-    let mut i: u32 = 0;
-    while i < 65534 {
+    for _ in 0..65534 {
         let m = taskcap::mint(t, 7);
         let minted = m.table;
         let r = taskcap::revoke_task(minted, 7);
         let ended = r.table;
         t = ended;
-        i += 1;
     }
     t
 }
 
-pub(crate) fn tasks(op: u8, t: Tasks, w: &[u64]) -> Tasks {
+pub(crate) fn tasks<P: Print>(to: &P, op: u8, t: Tasks, w: &[u64]) -> Tasks {
     match op {
         log::TASK_MINT => {
             let x = taskcap::mint(t, long(w, 0));
             let a = x.answer;
-            print::answer(a.shown());
+            print::answer(to, a.shown());
             x.table
         }
         log::TASK_LOOKUP => {
             let a = taskcap::lookup(t, id(w, 0));
-            print::answer(a.shown());
+            print::answer(to, a.shown());
             t
         }
         log::TASK_END => {
             let x = taskcap::revoke_task(t, long(w, 0));
-            print::answer(taskcap::revoke_shown(x.count));
+            print::answer(to, taskcap::revoke_shown(x.count));
             x.table
         }
         op::WEAR => worn(),
@@ -45,17 +43,17 @@ pub(crate) fn tasks(op: u8, t: Tasks, w: &[u64]) -> Tasks {
     }
 }
 
-pub(crate) fn irqs(op: u8, t: Irqs, w: &[u64]) -> Irqs {
+pub(crate) fn irqs<P: Print>(to: &P, op: u8, t: Irqs, w: &[u64]) -> Irqs {
     match op {
         log::IRQ_MINT => {
             let x = irqcap::mint(t, long(w, 0));
             let a = x.answer;
-            print::answer(a.shown());
+            print::answer(to, a.shown());
             x.table
         }
         log::IRQ_LOOKUP => {
             let a = irqcap::lookup(t, id(w, 0));
-            print::answer(a.shown());
+            print::answer(to, a.shown());
             t
         }
         _ => t,

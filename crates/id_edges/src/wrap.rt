@@ -4,7 +4,6 @@ use cap::CapId;
 use edgescript::print;
 use ipc_rules::answers::{CreateAnswer, Creation, QueuedAnswer};
 use ipc_rules::state::{Channel, Table};
-use libc::STDOUT_FILENO;
 
 const CLOSED: u32 = 65534;
 
@@ -39,58 +38,52 @@ fn opens(t: Table, id: CapId) -> bool {
     }
 }
 
-fn flag(yes: bool) {
+fn flag<P: Print>(to: &P, yes: bool) {
     if yes {
-        print::value(1);
+        print::value(to, 1);
     } else {
-        print::value(0);
+        print::value(to, 0);
     }
 }
 
-fn word(text: &[u8]) {
-    io::write_all(STDOUT_FILENO, text);
-}
-
-fn ids(a: CreateAnswer) {
+fn ids<P: Print>(to: &P, a: CreateAnswer) {
     let c = made(a);
-    word(b" ids");
-    print::value(c.send.raw as u64);
-    print::value(c.recv.raw as u64);
+    print::text(to, b" ids");
+    print::value(to, c.send.raw as u64);
+    print::value(to, c.recv.raw as u64);
 }
 
 // How many of the creations were such that an id opened after them.
-fn turned(opened: u32) {
+fn turned<P: Print>(to: &P, opened: u32) {
     if opened == 0 {
-        word(b" after each its ids opened nothing");
+        print::text(to, b" after each its ids opened nothing");
     } else {
-        print::value(opened as u64);
+        print::value(to, opened as u64);
     }
 }
 
-pub(crate) fn edges() {
+pub(crate) fn edges<P: Print>(to: &P) {
     let mut x = first();
     let a = x.answer;
     let c = made(a);
-    ids(a);
-    word(b", revoked at once\n65534 more creations:");
+    ids(to, a);
+    print::text(to, b", revoked at once\n65534 more creations:");
     let mut opened = 0;
-    let mut i = 0;
-    while i < CLOSED {
+    for i in 0..CLOSED {
         x = next(x);
         if opens(x.table, c.send) | opens(x.table, c.recv) {
             opened = i + 1;
         }
-        i += 1;
     }
-    turned(opened);
-    word(b"\nthe last of these:");
+    turned(to, opened);
+    print::text(to, b"\nthe last of these:");
     let a = x.answer;
-    ids(a);
-    word(b"\none more:");
+    ids(to, a);
+    print::text(to, b"\none more:");
     x = next(x);
     let a = x.answer;
-    ids(a);
-    word(b"\nwhether its ids open now, send and receive:");
-    flag(opens(x.table, c.send));
-    flag(opens(x.table, c.recv));
+    ids(to, a);
+    print::text(to, b"\nwhether its ids open now, send and receive:");
+    flag(to, opens(x.table, c.send));
+    flag(to, opens(x.table, c.recv));
 }

@@ -5,35 +5,35 @@ use edgecalls::{channels, rows};
 use edgescript::broken;
 use ipc_rules::state::Table as Channels;
 
-pub(crate) fn channels(op: u8, t: Channels, w: &[u64]) -> Channels {
+pub(crate) fn channels<P: Print>(to: &P, op: u8, t: Channels, w: &[u64]) -> Channels {
     match op {
-        op::NEW => channels::new(w),
-        op::REVOKE => channels::revoke(t, w),
-        op::RELEASE => channels::release(t, w),
+        op::NEW => channels::new(to, w),
+        op::REVOKE => channels::revoke(to, t, w),
+        op::RELEASE => channels::release(to, t, w),
         _ => broken::set(op, t, w),
     }
 }
 
-pub(crate) fn look(op: u8, t: Channels, w: &[u64]) {
+pub(crate) fn look<P: Print>(to: &P, op: u8, t: Channels, w: &[u64]) {
     match op {
-        op::COUNTS => channels::counts(t),
-        op::HOLDERS => channels::holders(t, w),
-        broken::LOOK => broken::look(t.counters.next_gen, t.sizes),
+        op::COUNTS => channels::counts(to, t),
+        op::HOLDERS => channels::holders(to, t, w),
+        broken::LOOK => broken::look(to, t.counters.next_gen, t.sizes),
         _ => {}
     }
 }
 
 // What a drain of the row answers; the row stays.
-fn row(t: Rows, w: &[u64]) -> Rows {
-    rows::drain(t, w);
+fn row<P: Print>(to: &P, t: Rows, w: &[u64]) -> Rows {
+    rows::drain(to, t, w);
     t
 }
 
-pub(crate) fn rows(op: u8, t: Rows, w: &[u64]) -> Rows {
+pub(crate) fn rows<P: Print>(to: &P, op: u8, t: Rows, w: &[u64]) -> Rows {
     match op {
         op::NEW => capslots::new(),
-        op::ROW => row(t, w),
-        op::INSTALL => rows::install(t, w),
+        op::ROW => row(to, t, w),
+        op::INSTALL => rows::install(to, t, w),
         _ => t,
     }
 }

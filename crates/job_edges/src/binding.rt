@@ -26,17 +26,17 @@ fn set_count(mut d: Dispatcher, w: &[u64]) -> Dispatcher {
     d
 }
 
-fn make(d: Dispatcher, w: &[u64]) -> Dispatcher {
+fn make<P: Print>(to: &P, d: Dispatcher, w: &[u64]) -> Dispatcher {
     let variants = d.variants;
     let x = dispatcher::make(size(w, 0), variants);
     let a = x.answer;
-    print::answer(a.shown());
+    print::answer(to, a.shown());
     x.dispatcher
 }
 
-pub(crate) fn call(op: u8, d: Dispatcher, w: &[u64]) -> Dispatcher {
+pub(crate) fn call<P: Print>(to: &P, op: u8, d: Dispatcher, w: &[u64]) -> Dispatcher {
     match op {
-        op::MAKE => make(d, w),
+        op::MAKE => make(to, d, w),
         op::SET_VARIANT => set_variant(d, w),
         op::SET_COUNT => set_count(d, w),
         _ => d,

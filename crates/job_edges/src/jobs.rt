@@ -16,61 +16,61 @@ fn desk(dispatcher: Dispatcher, rows: Rows, channels: Channels) -> Desk {
     }
 }
 
-fn open(d: Desk, w: &[u64]) -> Desk {
+fn open<P: Print>(to: &P, d: Desk, w: &[u64]) -> Desk {
     let x = dispatcher::open(d.dispatcher, d.rows, d.channels, tag(w), size(w, 5));
     let a = x.answer;
-    print::answer(a.shown());
+    print::answer(to, a.shown());
     desk(x.dispatcher, x.rows, x.channels)
 }
 
-fn close(d: Desk, w: &[u64]) -> Desk {
+fn close<P: Print>(to: &P, d: Desk, w: &[u64]) -> Desk {
     let x = dispatcher::close(d.dispatcher, d.rows, d.channels, size(w, 0));
     let a = x.answer;
-    print::answer(a.shown());
+    print::answer(to, a.shown());
     desk(x.dispatcher, x.rows, x.channels)
 }
 
-fn send(d: Desk, w: &[u64]) -> Desk {
+fn send<P: Print>(to: &P, d: Desk, w: &[u64]) -> Desk {
     let p = payload(rest(w, 2));
     let x = dispatcher::send(d.dispatcher, d.rows, d.channels, size(w, 0), size(w, 1), p);
     let a = x.answer;
-    print::answer(a.shown());
+    print::answer(to, a.shown());
     desk(x.dispatcher, x.rows, x.channels)
 }
 
-fn receive(d: Desk, w: &[u64]) -> Desk {
+fn receive<P: Print>(to: &P, d: Desk, w: &[u64]) -> Desk {
     let x = dispatcher::receive(d.dispatcher, d.rows, d.channels, size(w, 0), size(w, 1));
     let a = x.answer;
-    print::answer(a.shown());
+    print::answer(to, a.shown());
     desk(x.dispatcher, x.rows, x.channels)
 }
 
-fn park(d: Desk, w: &[u64]) -> Desk {
+fn park<P: Print>(to: &P, d: Desk, w: &[u64]) -> Desk {
     let me = task(rest(w, 2));
     let x = dispatcher::park(d.dispatcher, d.rows, d.channels, size(w, 0), size(w, 1), me);
     let a = x.answer;
-    print::answer(a.shown());
+    print::answer(to, a.shown());
     desk(x.dispatcher, x.rows, x.channels)
 }
 
 // A call on one of the three.
-fn single(op: u8, d: Desk, w: &[u64]) -> Desk {
-    beside::look(op, d.channels, w);
+fn single<P: Print>(to: &P, op: u8, d: Desk, w: &[u64]) -> Desk {
+    beside::look(to, op, d.channels, w);
     desk(
-        binding::call(op, d.dispatcher, w),
-        beside::rows(op, d.rows, w),
-        beside::channels(op, d.channels, w),
+        binding::call(to, op, d.dispatcher, w),
+        beside::rows(to, op, d.rows, w),
+        beside::channels(to, op, d.channels, w),
     )
 }
 
-pub(crate) fn call(op: u8, d: Desk, w: &[u64]) -> Desk {
+pub(crate) fn call<P: Print>(to: &P, op: u8, d: Desk, w: &[u64]) -> Desk {
     match op {
-        op::OPEN => open(d, w),
-        op::CLOSE => close(d, w),
-        op::SEND => send(d, w),
-        op::RECEIVE => receive(d, w),
-        op::PARK => park(d, w),
-        _ => single(op, d, w),
+        op::OPEN => open(to, d, w),
+        op::CLOSE => close(to, d, w),
+        op::SEND => send(to, d, w),
+        op::RECEIVE => receive(to, d, w),
+        op::PARK => park(to, d, w),
+        _ => single(to, op, d, w),
     }
 }
 

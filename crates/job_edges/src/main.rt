@@ -10,20 +10,19 @@ mod binding;
 mod jobs;
 mod op;
 
-fn main() {
+fn main(rt: HostRuntime) {
+    let mut reader = rt.stdin();
     let mut desk = jobs::fresh();
-    let mut left = script::MOST_CALLS;
-    while left > 0 {
-        left -= 1;
+    for _ in 0..script::MOST_CALLS {
         let mut words = [0u64; script::ROOM];
-        let n = script::call(&mut words);
+        let n = script::call(&mut reader, &rt, &mut words);
         if n == 0 {
             return;
         }
         let line = &words[..n];
         let op = operands::byte(line, 0);
         let w = operands::rest(line, 1);
-        desk = jobs::call(op, desk, w);
-        print::end();
+        desk = jobs::call(&rt, op, desk, w);
+        print::end(&rt);
     }
 }

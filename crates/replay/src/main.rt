@@ -2,6 +2,6 @@
 // fault's number.
 #![tactic(auto)]
 
-fn main() {
-    player::play();
+fn main(rt: HostRuntime) {
+    player::play(&rt);
 }

@@ -5,7 +5,7 @@
 use cap::CapId;
 use ipc_rules::answers::RecvAnswer;
 use ipc_rules::state::{Payload, Table};
-use libc::{STDIN_FILENO, STDOUT_FILENO};
+use std::io::Read;
 
 const ROUNDS: u64 = 1000000;
 
@@ -21,18 +21,16 @@ fn interior(n: u64) -> u64 {
     let send = CapId::from_raw(65536);
     let recv = CapId::from_raw(65537);
     let mut sum: u64 = 0;
-    let mut i: u64 = 0;
-    while i < n {
+    for i in 0..n {
         let sent = ipc_queue::inner::send(t, send, Payload { tag: 1, a: i, b: i }, ROW);
         let between = sent.table;
         let got = ipc_queue::inner::try_recv(between, recv);
         let answer = got.answer;
         if let RecvAnswer::Received(m) = answer {
-            sum = std::num::wrapping_add_u64(sum, m.a);
+            sum = sum.wrapping_add(m.a);
         }
         let after = got.table;
         t = after;
-        i += 1;
     }
     sum
 }
@@ -46,18 +44,16 @@ fn border(n: u64) -> u64 {
     let send = CapId::from_raw(65536);
     let recv = CapId::from_raw(65537);
     let mut sum: u64 = 0;
-    let mut i: u64 = 0;
-    while i < n {
+    for i in 0..n {
         let sent = ipc::send(t, send, Payload { tag: 1, a: i, b: i }, ROW);
         let between = sent.table;
         let got = ipc::try_recv(between, recv);
         let answer = got.answer;
         if let RecvAnswer::Received(m) = answer {
-            sum = std::num::wrapping_add_u64(sum, m.a);
+            sum = sum.wrapping_add(m.a);
         }
         let after = got.table;
         t = after;
-        i += 1;
     }
     sum
 }
@@ -69,14 +65,12 @@ fn tested(n: u64) -> u64 {
     let creation = ipc::create_channel(fresh);
     let mut t = creation.table;
     let mut sum: u64 = 0;
-    let mut i: u64 = 0;
-    while i < n {
+    for i in 0..n {
         if ipc_sound::sound(t) {
-            sum = std::num::wrapping_add_u64(sum, 1);
+            sum = sum.wrapping_add(1);
         }
         let next = (i % 65535) as u16;
         t.counters.next_gen = next;
-        i += 1;
     }
     sum
 }
@@ -94,9 +88,9 @@ fn run(loop_kind: u8) -> u64 {
     0
 }
 
-fn main() {
+fn main(rt: HostRuntime) {
     let mut first = [0u8; 1];
-    io::read_full(STDIN_FILENO, &mut first);
-    io::print_decimal(STDOUT_FILENO, run(first[0]));
-    io::write_all(STDOUT_FILENO, b"\n");
+    let _ = rt.stdin().read(&mut first);
+    let _ = rt.print(run(first[0]));
+    let _ = rt.write_all(b"\n");
 }
