@@ -4,7 +4,7 @@ use crate::op;
 use edgescript::operands::{id, long};
 use edgescript::print;
 use irqcap::Table as Irqs;
-use logread::op as log;
+use logread::op as logged;
 use taskcap::Table as Tasks;
 
 // Entry 0 of a fresh table minted and ended 65,534 times.
@@ -22,18 +22,18 @@ fn worn() -> Tasks {
 
 pub(crate) fn tasks<P: Print>(to: &P, op: u8, t: Tasks, w: &[u64]) -> Tasks {
     match op {
-        log::TASK_MINT => {
+        logged::TASK_MINT => {
             let x = taskcap::mint(t, long(w, 0));
             let a = x.answer;
             print::answer(to, a.shown());
             x.table
         }
-        log::TASK_LOOKUP => {
+        logged::TASK_LOOKUP => {
             let a = taskcap::lookup(t, id(w, 0));
             print::answer(to, a.shown());
             t
         }
-        log::TASK_END => {
+        logged::TASK_END => {
             let x = taskcap::revoke_task(t, long(w, 0));
             print::answer(to, taskcap::revoke_shown(x.count));
             x.table
@@ -45,13 +45,13 @@ pub(crate) fn tasks<P: Print>(to: &P, op: u8, t: Tasks, w: &[u64]) -> Tasks {
 
 pub(crate) fn irqs<P: Print>(to: &P, op: u8, t: Irqs, w: &[u64]) -> Irqs {
     match op {
-        log::IRQ_MINT => {
+        logged::IRQ_MINT => {
             let x = irqcap::mint(t, long(w, 0));
             let a = x.answer;
             print::answer(to, a.shown());
             x.table
         }
-        log::IRQ_LOOKUP => {
+        logged::IRQ_LOOKUP => {
             let a = irqcap::lookup(t, id(w, 0));
             print::answer(to, a.shown());
             t
