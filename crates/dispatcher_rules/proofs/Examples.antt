@@ -45,7 +45,7 @@ use Rattle.dispatcher_rules.specs.declared.answers.CloseAnswer.TheVariants.{Clos
 use Rattle.dispatcher_rules.specs.declared.answers.SlotParking.{SlotParking}
 use Rattle.dispatcher_rules.specs.declared.answers.SlotParkAnswer.TheVariants.{Answered}
 
--- `pt_PT` bound to row 1, `fr-FR` to row 2
+-- `pt-PT` bound to row 1, `fr-FR` to row 2
 abbrev pt : Tag
 pt = record { bytes = 112 ∷ 116 ∷ 45 ∷ 80 ∷ 84 ∷ [] }
 

@@ -7,7 +7,7 @@ pub const MAX_VARIANTS: usize = 16;
 
 pub const MAX_JOBS: usize = 16;
 
-// Five bytes, such as `pt_PT`.
+// Five bytes, such as `pt-PT`.
 #[derive(Clone, Copy)]
 pub struct Tag {
     pub bytes: [u8; 5],
