@@ -12,6 +12,13 @@ use Rattle.ipc_rules.proofs.Fresh.{in_range_of}
 use Rattle.ipc_sound.proofs.Decide.{sound_of}
 use borrow.Author.Rules.{rules}
 use Rattle.ipc_sound.proofs.sound.Goals as goal
+use Rattle.ipc_sound.proofs.sound.Goals.{Else-not-in_range, Start}
+
+shape : (c : Start) → Shape c.args.t
+shape c = record { endpoints = search (rules, unmapped); mailboxes = search (rules, unmapped); messages = search (rules, unmapped) }
+
+in_range_lem : (c : Else-not-in_range) → in_range c.args.t.sizes ≡ true
+in_range_lem c = sym c.in_range.ensures ∙ c.if-not-in_range.false
 
 told : (t : Table) {q : Bool} → Shape t → q ≡ sound_test t → (q ≡ sound_test t) × (q ≡ true → Sound t)
 told t s e = (e, λ y. sound_of t s (sym e ∙ y))
@@ -22,19 +29,15 @@ refused t h = rw h
 
 pub returns-then-not-in_range : goal.returns-then-not-in_range
 returns-then-not-in_range c =
-    let shape : Shape c.args.t = record { endpoints = search (rules, unmapped); mailboxes = search (rules, unmapped); messages = search (rules, unmapped) } in
-    told _ shape (refused _ (sym c.in_range.ensures ∙ c.if-not-in_range.true))
+    told _ (shape (goal.at.returns-then-not-in_range c).Start) (refused _ (sym c.in_range.ensures ∙ c.if-not-in_range.true))
 
 pub mailboxes_ok-requires : goal.mailboxes_ok-requires
 mailboxes_ok-requires c =
-    let in_range_lem : in_range c.args.t.sizes ≡ true = sym c.in_range.ensures ∙ c.if-not-in_range.false in
-    let shallow : c.args.t.sizes.depth ≤ 8 = (in_range_of c.args.t.sizes in_range_lem).depth in
+    let shallow : c.args.t.sizes.depth ≤ 8 = (in_range_of c.args.t.sizes (in_range_lem (goal.at.mailboxes_ok-requires c).Else-not-in_range)).depth in
     (c.last_ends-l.ensures.0, c.last_ends-l.ensures.1, shallow)
 
 pub returns : goal.returns
 unfolding sound_test
 returns c =
-    let shape : Shape c.args.t = record { endpoints = search (rules, unmapped); mailboxes = search (rules, unmapped); messages = search (rules, unmapped) } in
-    let in_range_lem : in_range c.args.t.sizes ≡ true = sym c.in_range.ensures ∙ c.if-not-in_range.false in
-    told _ shape
-    (simp (c.places_ok.ensures, c.mailboxes_ok.ensures, c.endpoints_ok.ensures, in_range_lem))
+    told _ (shape (goal.at.returns c).Start)
+    (simp (c.places_ok.ensures, c.mailboxes_ok.ensures, c.endpoints_ok.ensures, in_range_lem (goal.at.returns c).Else-not-in_range))

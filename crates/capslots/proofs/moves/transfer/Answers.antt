@@ -8,6 +8,16 @@ use Rattle.laws.proofs.Cases.{cases}
 use Rattle.capslots.specs.Transfer.{transfer_of}
 use Rattle.capslots.proofs.Reach.{inside, stopped, Reaches, reaches}
 use Rattle.capslots.proofs.moves.transfer.Goals as goal
+use Rattle.capslots.proofs.moves.transfer.Goals.{Else-to_row-ge-ROWS, In-Transferred}
+
+from-inside : (c : In-Transferred) → c.args.from_slot < 4
+from-inside c = (inside _ _ (sym c.transfer_bounds-bounds.ensures ∙ c.in-Transferred.is)).0
+
+to_inside : (c : In-Transferred) → c.args.to_slot < 4
+to_inside c = (inside _ _ (sym c.transfer_bounds-bounds.ensures ∙ c.in-Transferred.is)).1
+
+way : (c : Else-to_row-ge-ROWS) → Reaches c.args.t c.args.from_row c.args.from_slot c.args.to_row c.args.to_slot
+way c = record { from_slot = ((inside _ _ (sym c.transfer_bounds-bounds.ensures ∙ c.in-Transferred.is)).0); to_slot = ((inside _ _ (sym c.transfer_bounds-bounds.ensures ∙ c.in-Transferred.is)).1); elsewhere = c.if-from_row-to_row.false; from_row = c.if-from_row-ge-ROWS.false; held = not-false _ c.if-not-held.false; endpoint = sym c.is_endpoint-movable.ensures ∙ search not-false; to_row = omega arith }
 
 pub returns-in_default : goal.returns-in_default
 returns-in_default c = stopped _ _ _ _ _ _ c.transfer_bounds-bounds.ensures (λ e. c.in_default.not-Transferred e)
@@ -15,88 +25,54 @@ returns-in_default c = stopped _ _ _ _ _ _ c.transfer_bounds-bounds.ensures (λ 
 pub returns-then-from_row-to_row : goal.returns-then-from_row-to_row
 unfolding transfer_of
 returns-then-from_row-to_row c =
-    let from-inside : c.args.from_slot < 4 = (inside _ _ (sym c.transfer_bounds-bounds.ensures ∙ c.in-Transferred.is)).0 in
-    let to_inside : c.args.to_slot < 4 = (inside _ _ (sym c.transfer_bounds-bounds.ensures ∙ c.in-Transferred.is)).1 in
-    search (cases, from-inside, to_inside)
+    search (cases, from-inside (goal.at.returns-then-from_row-to_row c).In-Transferred, to_inside (goal.at.returns-then-from_row-to_row c).In-Transferred)
 
 pub returns-then-from_row-ge-ROWS : goal.returns-then-from_row-ge-ROWS
 unfolding transfer_of
 returns-then-from_row-ge-ROWS c =
-    let from-inside : c.args.from_slot < 4 = (inside _ _ (sym c.transfer_bounds-bounds.ensures ∙ c.in-Transferred.is)).0 in
-    let to_inside : c.args.to_slot < 4 = (inside _ _ (sym c.transfer_bounds-bounds.ensures ∙ c.in-Transferred.is)).1 in
-    search (cases, from-inside, to_inside)
+    search (cases, from-inside (goal.at.returns-then-from_row-ge-ROWS c).In-Transferred, to_inside (goal.at.returns-then-from_row-ge-ROWS c).In-Transferred)
 
 pub offset_bounds-from-from_slot : goal.offset_bounds-from-from_slot
-offset_bounds-from-from_slot c =
-    let from-inside : c.args.from_slot < 4 = (inside _ _ (sym c.transfer_bounds-bounds.ensures ∙ c.in-Transferred.is)).0 in
-    omega (arith, from-inside)
+offset_bounds-from-from_slot c = omega (arith, from-inside (goal.at.offset_bounds-from-from_slot c).In-Transferred)
 
 pub bounds-from-from_slot : goal.bounds-from-from_slot
-bounds-from-from_slot c =
-    let from-inside : c.args.from_slot < 4 = (inside _ _ (sym c.transfer_bounds-bounds.ensures ∙ c.in-Transferred.is)).0 in
-    omega (arith, from-inside)
+bounds-from-from_slot c = omega (arith, from-inside (goal.at.bounds-from-from_slot c).In-Transferred)
 
 pub returns-then-not-held : goal.returns-then-not-held
 unfolding transfer_of
 returns-then-not-held c =
-    let from-inside : c.args.from_slot < 4 = (inside _ _ (sym c.transfer_bounds-bounds.ensures ∙ c.in-Transferred.is)).0 in
-    let to_inside : c.args.to_slot < 4 = (inside _ _ (sym c.transfer_bounds-bounds.ensures ∙ c.in-Transferred.is)).1 in
-    search (cases, from-inside, to_inside)
+    search (cases, from-inside (goal.at.returns-then-not-held c).In-Transferred, to_inside (goal.at.returns-then-not-held c).In-Transferred)
 
 pub returns-then-not-movable : goal.returns-then-not-movable
 unfolding transfer_of
 returns-then-not-movable c =
-    let from-inside : c.args.from_slot < 4 = (inside _ _ (sym c.transfer_bounds-bounds.ensures ∙ c.in-Transferred.is)).0 in
-    let to_inside : c.args.to_slot < 4 = (inside _ _ (sym c.transfer_bounds-bounds.ensures ∙ c.in-Transferred.is)).1 in
-    rw (← c.is_endpoint-movable.ensures) (search (cases, from-inside, to_inside) depth 12)
+    rw (← c.is_endpoint-movable.ensures) (search (cases, from-inside (goal.at.returns-then-not-movable c).In-Transferred, to_inside (goal.at.returns-then-not-movable c).In-Transferred) depth 12)
 
 pub returns-then-to_row-ge-ROWS : goal.returns-then-to_row-ge-ROWS
 unfolding transfer_of
 returns-then-to_row-ge-ROWS c =
-    let from-inside : c.args.from_slot < 4 = (inside _ _ (sym c.transfer_bounds-bounds.ensures ∙ c.in-Transferred.is)).0 in
-    let to_inside : c.args.to_slot < 4 = (inside _ _ (sym c.transfer_bounds-bounds.ensures ∙ c.in-Transferred.is)).1 in
-    rw (← c.is_endpoint-movable.ensures) (search (cases, from-inside, to_inside) depth 12)
+    rw (← c.is_endpoint-movable.ensures) (search (cases, from-inside (goal.at.returns-then-to_row-ge-ROWS c).In-Transferred, to_inside (goal.at.returns-then-to_row-ge-ROWS c).In-Transferred) depth 12)
 
 pub offset_bounds-there-to_slot : goal.offset_bounds-there-to_slot
-offset_bounds-there-to_slot c =
-    let to_inside : c.args.to_slot < 4 = (inside _ _ (sym c.transfer_bounds-bounds.ensures ∙ c.in-Transferred.is)).1 in
-    omega (arith, to_inside)
+offset_bounds-there-to_slot c = omega (arith, to_inside (goal.at.offset_bounds-there-to_slot c).In-Transferred)
 
 pub bounds-there-to_slot : goal.bounds-there-to_slot
-bounds-there-to_slot c =
-    let to_inside : c.args.to_slot < 4 = (inside _ _ (sym c.transfer_bounds-bounds.ensures ∙ c.in-Transferred.is)).1 in
-    omega (arith, to_inside)
+bounds-there-to_slot c = omega (arith, to_inside (goal.at.bounds-there-to_slot c).In-Transferred)
 
 pub returns-then-there-to_slot : goal.returns-then-there-to_slot
-returns-then-there-to_slot c =
-    let from-inside : c.args.from_slot < 4 = (inside _ _ (sym c.transfer_bounds-bounds.ensures ∙ c.in-Transferred.is)).0 in
-    let to_inside : c.args.to_slot < 4 = (inside _ _ (sym c.transfer_bounds-bounds.ensures ∙ c.in-Transferred.is)).1 in
-    let way : Reaches c.args.t c.args.from_row c.args.from_slot c.args.to_row c.args.to_slot = record { from_slot = from-inside; to_slot = to_inside; elsewhere = c.if-from_row-to_row.false; from_row = c.if-from_row-ge-ROWS.false; held = not-false _ c.if-not-held.false; endpoint = sym c.is_endpoint-movable.ensures ∙ search not-false; to_row = omega arith } in
-    rw (reaches _ _ _ _ _ way) (search cases)
+returns-then-there-to_slot c = rw (reaches _ _ _ _ _ (way (goal.at.returns-then-there-to_slot c).Else-to_row-ge-ROWS)) (search cases)
 
 pub offset_bounds-from-from_slot-2 : goal.offset_bounds-from-from_slot-2
-offset_bounds-from-from_slot-2 c =
-    let from-inside : c.args.from_slot < 4 = (inside _ _ (sym c.transfer_bounds-bounds.ensures ∙ c.in-Transferred.is)).0 in
-    omega (arith, from-inside)
+offset_bounds-from-from_slot-2 c = omega (arith, from-inside (goal.at.offset_bounds-from-from_slot-2 c).In-Transferred)
 
 pub bounds-from-from_slot-2 : goal.bounds-from-from_slot-2
-bounds-from-from_slot-2 c =
-    let from-inside : c.args.from_slot < 4 = (inside _ _ (sym c.transfer_bounds-bounds.ensures ∙ c.in-Transferred.is)).0 in
-    omega (arith, from-inside)
+bounds-from-from_slot-2 c = omega (arith, from-inside (goal.at.bounds-from-from_slot-2 c).In-Transferred)
 
 pub offset_bounds-to-to_slot : goal.offset_bounds-to-to_slot
-offset_bounds-to-to_slot c =
-    let to_inside : c.args.to_slot < 4 = (inside _ _ (sym c.transfer_bounds-bounds.ensures ∙ c.in-Transferred.is)).1 in
-    omega (arith, to_inside)
+offset_bounds-to-to_slot c = omega (arith, to_inside (goal.at.offset_bounds-to-to_slot c).In-Transferred)
 
 pub bounds-to-to_slot : goal.bounds-to-to_slot
-bounds-to-to_slot c =
-    let to_inside : c.args.to_slot < 4 = (inside _ _ (sym c.transfer_bounds-bounds.ensures ∙ c.in-Transferred.is)).1 in
-    omega (arith, to_inside)
+bounds-to-to_slot c = omega (arith, to_inside (goal.at.bounds-to-to_slot c).In-Transferred)
 
 pub returns : goal.returns
-returns c =
-    let from-inside : c.args.from_slot < 4 = (inside _ _ (sym c.transfer_bounds-bounds.ensures ∙ c.in-Transferred.is)).0 in
-    let to_inside : c.args.to_slot < 4 = (inside _ _ (sym c.transfer_bounds-bounds.ensures ∙ c.in-Transferred.is)).1 in
-    let way : Reaches c.args.t c.args.from_row c.args.from_slot c.args.to_row c.args.to_slot = record { from_slot = from-inside; to_slot = to_inside; elsewhere = c.if-from_row-to_row.false; from_row = c.if-from_row-ge-ROWS.false; held = not-false _ c.if-not-held.false; endpoint = sym c.is_endpoint-movable.ensures ∙ search not-false; to_row = omega arith } in
-    rw (reaches _ _ _ _ _ way) (search cases)
+returns c = rw (reaches _ _ _ _ _ (way (goal.at.returns c).Else-to_row-ge-ROWS)) (search cases)

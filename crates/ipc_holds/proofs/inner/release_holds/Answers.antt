@@ -29,6 +29,20 @@ use Rattle.ipc_rules.proofs.Openings.{shut, opens, hold_gave, hold_vacant, hold_
 use Rattle.ipc_rules.proofs.KeepsCalls.{released_kept}
 use Rattle.ipc_holds.proofs.inner.release_holds.Invariants.{Releases}
 use Rattle.ipc_holds.proofs.inner.release_holds.Goals as goal
+use Rattle.ipc_holds.proofs.inner.release_holds.Goals.{After-open, In-Opens, In-loop-n}
+
+left : (c : In-loop-n) → c.loop-n.n < length c.args.slots
+left c = let f = c.loop-n.invariant.1 in let l : c.loop-n.n < 4 = c.loop-n-test.true in omega arith
+
+gave : (c : After-open) → c.open.result ≡ hold_of c.loop-n.t (get_or c.args.slots c.loop-n.n vacant_slot)
+gave c = hold_gave _ _ _ c.loop-n.invariant.2.sound _ (not-false _ c.if-not-slot.false) c.index-i.ensures c.open.ensures
+
+-- what opened is a live mailbox within the arrays, a slot is left, and the waiters so far are fewer than four
+inside : (c : In-Opens) → Within c.loop-n.t c.in-Opens.k
+inside c = hold_within _ _ _ c.loop-n.invariant.2.sound (sym (hold_gave _ _ _ c.loop-n.invariant.2.sound _ (not-false _ c.if-not-slot.false) c.index-i.ensures c.open.ensures) ∙ c.in-Opens.is)
+
+room : (c : In-loop-n) → c.loop-n.woken < 4
+room c = let r = c.loop-n.invariant.2 in let m = r.many in let f = r.few in omega arith
 
 start : (t : Table) (xs : List Slot) → Sound t → Releases t xs 0 t (four_of []) 0
 start t xs s = record { sound = s; so_far = []; table = refl; all = refl; places = refl; many = refl; few = omega arith }
@@ -89,82 +103,50 @@ loop-n-init c =
 
 pub loop-n-preserved-then-not-slot : goal.loop-n-preserved-then-not-slot
 loop-n-preserved-then-not-slot c =
-    let left : c.loop-n.n < length c.args.slots = let f = c.loop-n.invariant.1 in let l : c.loop-n.n < 4 = c.loop-n-test.true in omega arith in
     let i = c.loop-n.invariant in
-    (search rules, i.1, skipped i.2 _ left refl (hold_vacant _ _ (not-true _ c.if-not-slot.true)) refl)
+    (search rules, i.1, skipped i.2 _ (left (goal.at.loop-n-preserved-then-not-slot c).In-loop-n) refl (hold_vacant _ _ (not-true _ c.if-not-slot.true)) refl)
 
 pub loop-n-preserved-in_default : goal.loop-n-preserved-in_default
 loop-n-preserved-in_default c =
-    let gave : c.open.result ≡ hold_of c.loop-n.t (get_or c.args.slots c.loop-n.n vacant_slot) = hold_gave _ _ _ c.loop-n.invariant.2.sound _ (not-false _ c.if-not-slot.false) c.index-i.ensures c.open.ensures in
-    let left : c.loop-n.n < length c.args.slots = let f = c.loop-n.invariant.1 in let l : c.loop-n.n < 4 = c.loop-n-test.true in omega arith in
     let i = c.loop-n.invariant in
-    (search rules, i.1, skipped i.2 _ left refl gave c.in_default.is)
+    (search rules, i.1, skipped i.2 _ (left (goal.at.loop-n-preserved-in_default c).In-loop-n) refl (gave (goal.at.loop-n-preserved-in_default c).After-open) c.in_default.is)
 
 pub offset_bounds-t-k : goal.offset_bounds-t-k
-offset_bounds-t-k c =
-    let gave : c.open.result ≡ hold_of c.loop-n.t (get_or c.args.slots c.loop-n.n vacant_slot) = hold_gave _ _ _ c.loop-n.invariant.2.sound _ (not-false _ c.if-not-slot.false) c.index-i.ensures c.open.ensures in
-    let inside : Within c.loop-n.t c.in-Opens.k = hold_within _ _ _ c.loop-n.invariant.2.sound (sym gave ∙ c.in-Opens.is) in
-    omega (arith, inside)
+offset_bounds-t-k c = omega (arith, inside (goal.at.offset_bounds-t-k c).In-Opens)
 
 pub bounds-t-k : goal.bounds-t-k
-bounds-t-k c =
-    let gave : c.open.result ≡ hold_of c.loop-n.t (get_or c.args.slots c.loop-n.n vacant_slot) = hold_gave _ _ _ c.loop-n.invariant.2.sound _ (not-false _ c.if-not-slot.false) c.index-i.ensures c.open.ensures in
-    let inside : Within c.loop-n.t c.in-Opens.k = hold_within _ _ _ c.loop-n.invariant.2.sound (sym gave ∙ c.in-Opens.is) in
-    omega (arith, inside)
+bounds-t-k c = omega (arith, inside (goal.at.bounds-t-k c).In-Opens)
 
 pub offset_bounds-waiters-woken : goal.offset_bounds-waiters-woken
-offset_bounds-waiters-woken c =
-    let room : c.loop-n.woken < 4 = let r = c.loop-n.invariant.2 in let m = r.many in let f = r.few in omega arith in
-    omega (arith, room)
+offset_bounds-waiters-woken c = omega (arith, room (goal.at.offset_bounds-waiters-woken c).In-loop-n)
 
 pub bounds-waiters-woken : goal.bounds-waiters-woken
-bounds-waiters-woken c =
-    let room : c.loop-n.woken < 4 = let r = c.loop-n.invariant.2 in let m = r.many in let f = r.few in omega arith in
-    room
+bounds-waiters-woken c = room (goal.at.bounds-waiters-woken c).In-loop-n
 
 pub overflow_add-woken : goal.overflow_add-woken
-overflow_add-woken c =
-    let room : c.loop-n.woken < 4 = let r = c.loop-n.invariant.2 in let m = r.many in let f = r.few in omega arith in
-    omega (arith, room)
+overflow_add-woken c = omega (arith, room (goal.at.overflow_add-woken c).In-loop-n)
 
 pub offset_bounds-t-k-then-reaps : goal.offset_bounds-t-k-then-reaps
-offset_bounds-t-k-then-reaps c =
-    let gave : c.open.result ≡ hold_of c.loop-n.t (get_or c.args.slots c.loop-n.n vacant_slot) = hold_gave _ _ _ c.loop-n.invariant.2.sound _ (not-false _ c.if-not-slot.false) c.index-i.ensures c.open.ensures in
-    let inside : Within c.loop-n.t c.in-Opens.k = hold_within _ _ _ c.loop-n.invariant.2.sound (sym gave ∙ c.in-Opens.is) in
-    omega (arith, inside)
+offset_bounds-t-k-then-reaps c = omega (arith, inside (goal.at.offset_bounds-t-k-then-reaps c).In-Opens)
 
 pub bounds-t-k-then-reaps : goal.bounds-t-k-then-reaps
-bounds-t-k-then-reaps c =
-    let gave : c.open.result ≡ hold_of c.loop-n.t (get_or c.args.slots c.loop-n.n vacant_slot) = hold_gave _ _ _ c.loop-n.invariant.2.sound _ (not-false _ c.if-not-slot.false) c.index-i.ensures c.open.ensures in
-    let inside : Within c.loop-n.t c.in-Opens.k = hold_within _ _ _ c.loop-n.invariant.2.sound (sym gave ∙ c.in-Opens.is) in
-    omega (arith, inside)
+bounds-t-k-then-reaps c = omega (arith, inside (goal.at.bounds-t-k-then-reaps c).In-Opens)
 
 pub loop-n-preserved-then-reaps : goal.loop-n-preserved-then-reaps
 loop-n-preserved-then-reaps c =
-    let gave : c.open.result ≡ hold_of c.loop-n.t (get_or c.args.slots c.loop-n.n vacant_slot) = hold_gave _ _ _ c.loop-n.invariant.2.sound _ (not-false _ c.if-not-slot.false) c.index-i.ensures c.open.ensures in
-    let left : c.loop-n.n < length c.args.slots = let f = c.loop-n.invariant.1 in let l : c.loop-n.n < 4 = c.loop-n-test.true in omega arith in
-    let room : c.loop-n.woken < 4 = let r = c.loop-n.invariant.2 in let m = r.many in let f = r.few in omega arith in
     let i = c.loop-n.invariant in
-    (search rules, i.1, reaped i.2 _ left refl _ _ gave c.in-Opens.is c.fewer-b.ensures (sym c.reaps.ensures ∙ c.if-reaps.true) room)
+    (search rules, i.1, reaped i.2 _ (left (goal.at.loop-n-preserved-then-reaps c).In-loop-n) refl _ _ (gave (goal.at.loop-n-preserved-then-reaps c).After-open) c.in-Opens.is c.fewer-b.ensures (sym c.reaps.ensures ∙ c.if-reaps.true) (room (goal.at.loop-n-preserved-then-reaps c).In-loop-n))
 
 pub offset_bounds-t-k-in-loop-n : goal.offset_bounds-t-k-in-loop-n
-offset_bounds-t-k-in-loop-n c =
-    let gave : c.open.result ≡ hold_of c.loop-n.t (get_or c.args.slots c.loop-n.n vacant_slot) = hold_gave _ _ _ c.loop-n.invariant.2.sound _ (not-false _ c.if-not-slot.false) c.index-i.ensures c.open.ensures in
-    let inside : Within c.loop-n.t c.in-Opens.k = hold_within _ _ _ c.loop-n.invariant.2.sound (sym gave ∙ c.in-Opens.is) in
-    omega (arith, inside)
+offset_bounds-t-k-in-loop-n c = omega (arith, inside (goal.at.offset_bounds-t-k-in-loop-n c).In-Opens)
 
 pub bounds-t-k-in-loop-n : goal.bounds-t-k-in-loop-n
-bounds-t-k-in-loop-n c =
-    let gave : c.open.result ≡ hold_of c.loop-n.t (get_or c.args.slots c.loop-n.n vacant_slot) = hold_gave _ _ _ c.loop-n.invariant.2.sound _ (not-false _ c.if-not-slot.false) c.index-i.ensures c.open.ensures in
-    let inside : Within c.loop-n.t c.in-Opens.k = hold_within _ _ _ c.loop-n.invariant.2.sound (sym gave ∙ c.in-Opens.is) in
-    omega (arith, inside)
+bounds-t-k-in-loop-n c = omega (arith, inside (goal.at.bounds-t-k-in-loop-n c).In-Opens)
 
 pub loop-n-preserved : goal.loop-n-preserved
 loop-n-preserved c =
-    let gave : c.open.result ≡ hold_of c.loop-n.t (get_or c.args.slots c.loop-n.n vacant_slot) = hold_gave _ _ _ c.loop-n.invariant.2.sound _ (not-false _ c.if-not-slot.false) c.index-i.ensures c.open.ensures in
-    let left : c.loop-n.n < length c.args.slots = let f = c.loop-n.invariant.1 in let l : c.loop-n.n < 4 = c.loop-n-test.true in omega arith in
     let i = c.loop-n.invariant in
-    (search rules, i.1, kept i.2 _ left refl _ _ gave c.in-Opens.is c.fewer-b.ensures (sym c.reaps.ensures ∙ c.if-reaps.false))
+    (search rules, i.1, kept i.2 _ (left (goal.at.loop-n-preserved c).In-loop-n) refl _ _ (gave (goal.at.loop-n-preserved c).After-open) c.in-Opens.is c.fewer-b.ensures (sym c.reaps.ensures ∙ c.if-reaps.false))
 
 pub returns : goal.returns
 returns c = let i = c.loop-n.invariant in let f = i.1 in let l : 4 ≤ c.loop-n.n = c.loop-n-test.false in done _ _ _ (omega arith) i.2
