@@ -2,7 +2,7 @@
 // little-endian.
 ghost use Rattle.std.specs.Prelude.{◌≤◌};
 
-use manifest::{AgentEntry, Want};
+use manifest::AgentEntry;
 
 // The bytes before the held words.
 pub(crate) const HEAD: usize = 10;
@@ -15,50 +15,31 @@ pub(crate) const MOST_BYTES: usize = 8 * MOST_HELD;
 pub(crate) fn count(head: [u8; HEAD]) -> usize
     ensures { result ≤ 255 }
 {
-    below_256(head[9])
-}
-
-fn below_256(byte: u8) -> usize
-    ensures { result ≤ 255 }
-{
-    byte as usize
+    head[9] as usize
 }
 
 // Whether the pool byte and the presence bytes are 0 or 1.
 pub(crate) fn flags_fit(head: [u8; HEAD]) -> bool {
-    (head[0] <= 1) & (head[1] <= 1) & (head[3] <= 1) & (head[5] <= 1) & (head[7] <= 1)
+    let flags = [head[0], head[1], head[3], head[5], head[7]];
+    flags.iter().all(|flag| *flag <= 1)
 }
 
-fn want(presence: u8, index: u8) -> Want {
-    Want {
-        present: presence == 1,
-        index,
-    }
+fn want(presence: u8, index: u8) -> Option<u8> {
+    (presence == 1).then_some(index)
 }
 
 pub(crate) fn entry(head: [u8; HEAD]) -> AgentEntry {
-    let first = want(head[1], head[2]);
-    let second = want(head[3], head[4]);
-    let third = want(head[5], head[6]);
-    let fourth = want(head[7], head[8]);
+    let [pool, a, i, b, j, c, k, d, l, _] = head;
     AgentEntry {
-        slots: [first, second, third, fourth],
-        packet_pool: head[0] == 1,
+        slots: [want(a, i), want(b, j), want(c, k), want(d, l)],
+        packet_pool: pool == 1,
     }
-}
-
-// The word with `byte` put in above and its lowest byte gone: eight of these read a word, lowest byte first.
-fn shifted_in(word: u64, byte: u8) -> u64 {
-    word / 256 + (byte as u64) * 72057594037927936
 }
 
 // The words that `bytes` hold, for as many as there is room.
 pub(crate) fn read_words(bytes: &[u8], held: &mut [u64]) {
-    for i in 0..bytes.len() {
-        let k = i / 8;
-        if k >= held.len() {
-            return;
-        }
-        held[k] = shifted_in(held[k], bytes[i]);
+    let (words, _) = bytes.as_chunks::<8>();
+    for (place, word) in held.iter_mut().zip(words) {
+        *place = u64::from_le_bytes(*word);
     }
 }

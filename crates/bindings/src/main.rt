@@ -11,12 +11,12 @@ mod case;
 mod line;
 mod slots;
 
-// What one turn found: a case of so many bytes, which was answered, or the input's end, or damage.
-#[derive(Clone, Copy)]
-enum Turn {
-    Answered(u16),
-    Ended,
-    Damaged,
+#[derive(Drop)]
+struct Damaged;
+
+// How many bytes came: a read that fails is the input's end here.
+fn taken<R: Read>(reader: &mut R, bytes: &mut [u8]) -> usize {
+    standard::take(reader, bytes).unwrap_or_else(|broken| broken.got)
 }
 
 // Writes what bind answers to the words and, where they all read, to the records that they stand for: one line where the two agree. A
@@ -34,61 +34,51 @@ fn answer_both<P: Print>(to: &P, entry: AgentEntry, held: &[u64])
     }
 }
 
-// Reads the held words and answers, or says that they are cut short.
+// Reads the held words and answers, where they are not cut short.
 fn answer<R: Read, P: Print>(
     reader: &mut R,
     to: &P,
     head: [u8; case::HEAD],
     bytes: &mut [u8],
     held: &mut [u64],
-) -> bool
+) -> Result<(), Damaged>
     requires { length held.old ≤ 255 }
 {
-    if standard::take(reader, bytes).got < bytes.len() {
-        return false;
+    if taken(reader, bytes) < bytes.len() {
+        return Err(Damaged);
     }
     case::read_words(bytes, held);
     answer_both(to, case::entry(head), held);
-    true
+    Ok(())
 }
 
-fn answer_one<R: Read, P: Print>(reader: &mut R, to: &P) -> Turn {
-    let mut head = [0u8; case::HEAD];
-    let got = standard::take(reader, &mut head).got;
+// Answers the next case and says how many bytes it had; None at the input's end.
+fn answer_one<R: Read, P: Print>(reader: &mut R, to: &P) -> Result<Option<u64>, Damaged> {
+    let mut head = [0; case::HEAD];
+    let got = taken(reader, &mut head);
     if got == 0 {
-        return Turn::Ended;
+        return Ok(None);
     }
     if (got < case::HEAD) | !case::flags_fit(head) {
-        return Turn::Damaged;
+        return Err(Damaged);
     }
     let count = case::count(head);
     let size = 8 * count;
-    let mut bytes = [0u8; case::MOST_BYTES];
-    let mut held = [0u64; case::MOST_HELD];
-    if answer(reader, to, head, &mut bytes[..size], &mut held[..count]) {
-        return Turn::Answered((case::HEAD + size) as u16);
-    }
-    Turn::Damaged
+    let mut bytes = [0; case::MOST_BYTES];
+    let mut held = [0; case::MOST_HELD];
+    answer(reader, to, head, &mut bytes[..size], &mut held[..count])?;
+    Ok(Some((case::HEAD + size) as u64))
 }
 
-// A proved loop has to end, and nothing says that the input does. So turns are counted down, from a number that no run uses up.
+// A proved loop has to end, and nothing says that the input does. So turns are counted, up to a number that no run reaches.
 fn main(rt: HostRuntime) {
     let mut reader = rt.stdin();
     let mut at: u64 = 0;
-    let mut turns = u32::MAX;
-    while turns > 0 {
-        turns -= 1;
+    for _ in 0..u32::MAX {
         match answer_one(&mut reader, &rt) {
-            Turn::Answered(size) => {
-                at += size as u64;
-            }
-            Turn::Ended => {
-                return;
-            }
-            Turn::Damaged => {
-                line::write_bad(&rt, at);
-                return;
-            }
+            Ok(Some(size)) => at = at.saturating_add(size),
+            Ok(None) => return,
+            Err(Damaged) => return line::write_bad(&rt, at),
         }
     }
 }

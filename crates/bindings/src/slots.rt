@@ -3,20 +3,13 @@ ghost use Rattle.std.specs.Prelude.{◌≡◌, ◌≤◌, take};
 ghost use Rattle.manifest.specs.Bind.{bind_slots};
 
 use crate::case::MOST_HELD;
-use cap::{CapId, Slot};
+use cap::Slot;
 use manifest::{AgentEntry, Binding};
+use std::array;
 
 // What the words stand for, vacant past their end.
 pub(crate) fn records(held: &[u64]) -> [Slot; MOST_HELD] {
-    let vacant = Slot {
-        present: false,
-        id: CapId { raw: 0 },
-    };
-    let mut slots = [vacant; MOST_HELD];
-    for i in 0..MOST_HELD {
-        slots[i] = cap::slot_at(held, i);
-    }
-    slots
+    array::from_fn(|i| cap::slot_at(held, i))
 }
 
 pub(crate) fn bind(entry: AgentEntry, slots: [Slot; MOST_HELD], n: usize) -> Binding

@@ -8,12 +8,12 @@ ghost use Rattle.cap.specs.Rights.{no_rights, contains_all, union_of};
 mod slot;
 mod word;
 
-pub use slot::{ROWS, Slot, SlotAnswer, from_slot};
-pub use word::{WordAnswer, read_word, slot_at, word_of, words_read};
+pub use slot::{ROWS, Slot, SlotAnswer, SlotError, from_slot};
+pub use word::{WordAnswer, WordError, read_word, slot_at, slot_of, word_of, words_read};
 
 // An opaque id: a table index in the low 16 bits, the generation that it was made in above them.
 // Anyone can build any id; what makes one worthless is the table that does not open it.
-#[derive(Clone, Copy)]
+#[derive(Clone, Copy, PartialEq, Eq)]
 pub struct CapId {
     pub raw: u32,
 }
@@ -24,7 +24,7 @@ pub const TASK_BAND: u16 = 16384;
 pub const IRQ_BAND: u16 = 32768;
 
 // What an id's index names, by its class bits.
-#[derive(Clone, Copy)]
+#[derive(Clone, Copy, PartialEq, Eq)]
 pub enum CapClass {
     Endpoint(u16),
     Task(u16),
@@ -66,26 +66,23 @@ impl CapId {
     }
 
     // The one decoder of the class bits.
+    #[tactic(auto, unfolding(crate::specs::Id::class_of, laws::specs::Pick::pick))]
     pub fn classify(self) -> CapClass
         ensures { result ≡ class_of self }
     {
         let index = self.index();
         let payload = index % TASK_BAND;
-        if index / IRQ_BAND % 2 == 1 {
-            if index / TASK_BAND % 2 == 1 {
-                return CapClass::Invalid;
-            }
-            return CapClass::Irq(payload);
+        match (index / IRQ_BAND % 2 == 1, index / TASK_BAND % 2 == 1) {
+            (false, false) => CapClass::Endpoint(payload),
+            (false, true) => CapClass::Task(payload),
+            (true, false) => CapClass::Irq(payload),
+            (true, true) => CapClass::Invalid,
         }
-        if index / TASK_BAND % 2 == 1 {
-            return CapClass::Task(payload);
-        }
-        CapClass::Endpoint(payload)
     }
 }
 
 // Endpoint rights, as bit flags.
-#[derive(Clone, Copy)]
+#[derive(Clone, Copy, PartialEq, Eq)]
 pub struct CapRights {
     pub bits: u8,
 }

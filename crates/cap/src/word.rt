@@ -1,86 +1,80 @@
 // Slots as words of 64 bits, and lists of them: 0 is vacant, 4,294,967,296 + raw holds an id, and nothing else is a word.
 ghost use Rattle.std.specs.Prelude.{◌≡◌};
-ghost use Rattle.cap.specs.Word.{word_number, read_word, word_of, words_read, slot_at};
+ghost use Rattle.cap.specs.Word.{word_error_number, read_word, slot_of, word_of, is_word, words_read, slot_at};
 
 use crate::CapId;
 use crate::slot::Slot;
-use laws::refusals;
+use shown::{Answer, Shown};
 
 const PRESENT: u64 = 4294967296;
 
-#[derive(Clone, Copy)]
-pub enum WordAnswer {
-    Reads(Slot),
-    BadWord,
+pub type WordAnswer = Result<Slot, WordError>;
+
+#[derive(Clone, Copy, PartialEq, Eq)]
+pub enum WordError {
+    BadWord = 21,
 }
 
-impl WordAnswer {
-    pub fn number(self) -> u8
-        ensures { result ≡ word_number self }
-    {
-        match self {
-            WordAnswer::Reads(_) => refusals::NONE,
-            WordAnswer::BadWord => refusals::BAD_WORD,
-        }
+impl Answer for WordError {
+    ghost number_of = { word_error_number };
+
+    fn shown(self) -> Shown {
+        Shown::new(self as u8, &[])
     }
 }
 
+#[tactic(auto, unfolding(crate::specs::Word::read_word, laws::specs::Pick::pick))]
 pub fn read_word(word: u64) -> WordAnswer
     ensures { result ≡ read_word word }
 {
     if word == 0 {
-        return WordAnswer::Reads(Slot {
-            present: false,
-            id: CapId { raw: 0 },
-        });
+        Ok(Slot::VACANT)
+    } else if word / PRESENT == 1 {
+        Ok(Slot::holding(CapId::from_raw((word % PRESENT) as u32)))
+    } else {
+        Err(WordError::BadWord)
     }
-    if word / PRESENT != 1 {
-        return WordAnswer::BadWord;
-    }
-    WordAnswer::Reads(Slot {
-        present: true,
-        id: CapId {
-            raw: (word % PRESENT) as u32,
-        },
-    })
 }
 
+// The slot that a word stands for, vacant where it does not read.
+#[tactic(auto, unfolding(crate::specs::Word::or_vacant))]
+pub fn slot_of(word: u64) -> Slot
+    ensures { result ≡ slot_of word }
+{
+    read_word(word).unwrap_or(Slot::VACANT)
+}
+
+#[tactic(auto, unfolding(crate::specs::Word::word_of, laws::specs::Pick::pick))]
 pub fn word_of(slot: Slot) -> u64
     ensures { result ≡ word_of slot }
 {
     if slot.present {
-        return PRESENT + slot.id.raw as u64;
+        PRESENT + slot.id.raw as u64
+    } else {
+        0
     }
-    0
+}
+
+fn is_word(word: u64) -> bool
+    ensures { result ≡ is_word word }
+{
+    (word == 0) | (word / PRESENT == 1)
 }
 
 // Whether every word of the list reads.
 pub fn words_read(list: &[u64]) -> bool
     ensures { result ≡ words_read list.now }
 {
-    let mut ok = true;
-    let mut i = 0;
-    while i < list.len() {
-        let word = list[i];
-        ok = ok & ((word == 0) | (word / PRESENT == 1));
-        i += 1;
-    }
-    ok
+    list.iter().all(|w| is_word(*w))
 }
 
 // What the list holds at `i`: vacant past its end.
+#[tactic(auto, unfolding(crate::specs::Word::or_vacant, crate::specs::Word::read_word, laws::specs::Pick::pick))]
 pub fn slot_at(list: &[u64], i: usize) -> Slot
     ensures { result ≡ slot_at list.now i }
 {
-    let vacant = Slot {
-        present: false,
-        id: CapId { raw: 0 },
+    let Some(word) = list.get(i) else {
+        return Slot::VACANT;
     };
-    if i >= list.len() {
-        return vacant;
-    }
-    let WordAnswer::Reads(held) = read_word(list[i]) else {
-        return vacant;
-    };
-    held
+    slot_of(*word)
 }

@@ -1,4 +1,3 @@
-pub mod Reach
 pub mod Places
 pub mod Ways
 pub mod Calls

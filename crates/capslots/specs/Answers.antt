@@ -1,41 +1,45 @@
 -- Document 01, "Every no, by number": the numbers and values of what the calls on rows answer.
-use Rattle.std.specs.Prelude.{Bool, List, [], ◌∷◌, ◌++◌, ℕ, get_or}
+use Rattle.std.specs.Prelude.{Bool, List, [], ◌∷◌, ◌++◌, ℕ, get_or, Result, ⊤}
 use Rattle.laws.specs.Pick.{pick}
 use Rattle.laws.specs.Refusals as no
+use Rattle.shown.specs.Shown.{of_either}
+use Rattle.cap.specs.Word.{word_error_number}
 use Rattle.cap.specs.Slot.{vacant_slot}
 use Rattle.cap.specs.declared.slot.Slot.{Slot}
-use Rattle.capslots.specs.declared.answers.SeedAnswer.{SeedAnswer}
-use Rattle.capslots.specs.declared.answers.SeedAnswer.TheVariants.{Seeded, BadWord}
-use Rattle.capslots.specs.declared.answers.InstallAnswer.{InstallAnswer}
-use Rattle.capslots.specs.declared.answers.InstallAnswer.TheVariants.{Installed, BadSlot}
-use Rattle.capslots.specs.declared.answers.TransferAnswer.{TransferAnswer}
-use Rattle.capslots.specs.declared.answers.TransferAnswer.TheVariants.{Transferred, BadFromSlot, ToSlotFull, ToSlotOob, Untransferable, BadRow}
+use Rattle.capslots.specs.declared.answers.InstallError.TheVariants.{BadSlot}
+use Rattle.capslots.specs.declared.answers.TransferError.TheVariants.{BadFromSlot, ToSlotFull, ToSlotOob, Untransferable, BadRow}
+use Rattle.cap.specs.declared.word.WordError.{WordError}
+use Rattle.capslots.specs.declared.answers.InstallError.{InstallError}
+use Rattle.capslots.specs.declared.answers.TransferError.{TransferError}
 
-abbrev pub seed_number : SeedAnswer → ℕ
-seed_number Seeded = no.none
-seed_number BadWord = no.bad_word
+abbrev pub install_error_number : InstallError → ℕ
+install_error_number BadSlot = no.bad_slot
 
-abbrev pub install_number : InstallAnswer → ℕ
-install_number Installed = no.none
-install_number BadSlot = no.bad_slot
+abbrev pub transfer_error_number : TransferError → ℕ
+transfer_error_number BadFromSlot = no.bad_from_slot
+transfer_error_number ToSlotFull = no.to_slot_full
+transfer_error_number ToSlotOob = no.to_slot_oob
+transfer_error_number Untransferable = no.untransferable
+transfer_error_number BadRow = no.bad_row
 
-abbrev pub transfer_number : TransferAnswer → ℕ
-transfer_number Transferred = no.none
-transfer_number BadFromSlot = no.bad_from_slot
-transfer_number ToSlotFull = no.to_slot_full
-transfer_number ToSlotOob = no.to_slot_oob
-transfer_number Untransferable = no.untransferable
-transfer_number BadRow = no.bad_row
+abbrev pub seed_number : Result ⊤ WordError → ℕ
+seed_number = of_either (λ _. no.none) word_error_number
+
+abbrev pub install_number : Result ⊤ InstallError → ℕ
+install_number = of_either (λ _. no.none) install_error_number
+
+abbrev pub transfer_number : Result ⊤ TransferError → ℕ
+transfer_number = of_either (λ _. no.none) transfer_error_number
 
 -- none of the three shows a value
-abbrev pub seed_values : SeedAnswer → List ℕ
-seed_values a = []
+abbrev pub seed_values : Result ⊤ WordError → List ℕ
+seed_values = of_either (λ _. []) (λ _. [])
 
-abbrev pub install_values : InstallAnswer → List ℕ
-install_values a = []
+abbrev pub install_values : Result ⊤ InstallError → List ℕ
+install_values = of_either (λ _. []) (λ _. [])
 
-abbrev pub transfer_values : TransferAnswer → List ℕ
-transfer_values a = []
+abbrev pub transfer_values : Result ⊤ TransferError → List ℕ
+transfer_values = of_either (λ _. []) (λ _. [])
 
 -- ---- calls that nothing refuses
 -- a slot as `0`, or `1 id`

@@ -1,29 +1,28 @@
 -- Document 01, "Rows and binding": get, holds, seed, install and drain, on every row and slot; and, for whoever places ids himself, the
 -- lowest empty slot of a row, and ids forgotten in every row.
-use Rattle.std.specs.Prelude.{Bool, false, ◌||◌, List, [], ◌∷◌, map, ℕ, eqb, leb, get_or}
+use Rattle.std.specs.Prelude.{Bool, false, ◌||◌, List, [], ◌∷◌, map, ℕ, eqb, leb, get_or, None, Option, Err, Ok, Result, ⊤}
 use Rattle.laws.specs.Pick.{pick}
 use Rattle.laws.specs.Every.{some}
 use Rattle.laws.specs.Search.{lowest_free}
-use Rattle.laws.specs.declared.Found.{Found}
-use Rattle.laws.specs.declared.Found.TheVariants.{Nowhere}
 use Rattle.cap.specs.Slot.{vacant_slot, four_vacant, holding, from_slot}
 use Rattle.cap.specs.Word.{words_read, slot_at}
 use Rattle.cap.specs.declared.CapId.{CapId}
 use Rattle.cap.specs.declared.slot.Slot.{Slot}
-use Rattle.cap.specs.declared.slot.SlotAnswer.{SlotAnswer}
-use Rattle.cap.specs.declared.slot.SlotAnswer.TheVariants.{OutOfRange}
+use Rattle.cap.specs.declared.slot.SlotError.TheVariants.{OutOfRange}
 use Rattle.capslots.specs.Table.{empty_row, row_at, slot_in, with_row, with_slot}
 use Rattle.capslots.specs.declared.Row.{Row}
 use Rattle.capslots.specs.declared.Table.{Table}
-use Rattle.capslots.specs.declared.Seeded.{Seeded as Seeding}
-use Rattle.capslots.specs.declared.Installed.{Installed as Installing}
 use Rattle.capslots.specs.declared.Drained.{Drained}
-use Rattle.capslots.specs.declared.answers.SeedAnswer.TheVariants.{Seeded, BadWord}
-use Rattle.capslots.specs.declared.answers.InstallAnswer.TheVariants.{Installed, BadSlot}
+use Rattle.cap.specs.declared.word.WordError.TheVariants.{BadWord}
+use Rattle.capslots.specs.declared.answers.InstallError.TheVariants.{BadSlot}
+use Rattle.cap.specs.declared.slot.SlotError.{SlotError}
+use Rattle.cap.specs.declared.word.WordError.{WordError}
+use Rattle.shown.specs.declared.Answered.{Answered}
+use Rattle.capslots.specs.declared.answers.InstallError.{InstallError}
 
 -- a bad row is out of range as one of 0 slots (8), else the row is read at the slot (8 with 4, or 9)
-unfoldable pub get_of : Table → ℕ → ℕ → SlotAnswer
-get_of t r s = pick (leb 54 r) (OutOfRange s 0) (from_slot (row_at t r).slots s)
+unfoldable pub get_of : Table → ℕ → ℕ → Result CapId SlotError
+get_of t r s = pick (leb 54 r) (Err (OutOfRange s 0)) (from_slot (row_at t r).slots s)
 
 -- a slot holds the id: it is not vacant, and the id in it is that one
 abbrev pub names_id : CapId → Slot → Bool
@@ -38,19 +37,19 @@ abbrev pub row_of : List ℕ → Row
 row_of words = record { slots = slot_at words 0 ∷ slot_at words 1 ∷ slot_at words 2 ∷ slot_at words 3 ∷ [] }
 
 -- a list that does not read is refused before all else (21); a row from 54 up is without effect; else the list fills the row
-unfoldable pub seed_of : Table → ℕ → List ℕ → Seeding
+unfoldable pub seed_of : Table → ℕ → List ℕ → Answered (Result ⊤ WordError) Table
 seed_of t r words =
     pick (words_read words)
-    (pick (leb 54 r) (record { answer = Seeded; table = t }) (record { answer = Seeded; table = with_row t r (row_of words) }))
-    (record { answer = BadWord; table = t })
+    (pick (leb 54 r) (record { answer = Ok tt; table = t }) (record { answer = Ok tt; table = with_row t r (row_of words) }))
+    (record { answer = Err BadWord; table = t })
 
 -- a bad row, a bad slot or an occupied one is refused (10)
-unfoldable pub install_of : Table → ℕ → ℕ → CapId → Installing
+unfoldable pub install_of : Table → ℕ → ℕ → CapId → Answered (Result ⊤ InstallError) Table
 install_of t r s c =
-    pick (leb 54 r) (record { answer = BadSlot; table = t })
-    (pick (leb 4 s) (record { answer = BadSlot; table = t })
-    (pick (slot_in t r s).present (record { answer = BadSlot; table = t })
-    (record { answer = Installed; table = with_slot t r s (holding c) })))
+    pick (leb 54 r) (record { answer = Err BadSlot; table = t })
+    (pick (leb 4 s) (record { answer = Err BadSlot; table = t })
+    (pick (slot_in t r s).present (record { answer = Err BadSlot; table = t })
+    (record { answer = Ok tt; table = with_slot t r s (holding c) })))
 
 -- the row's four slots, which are then vacant; four vacant and no change for a bad row
 unfoldable pub drain_of : Table → ℕ → Drained
@@ -63,12 +62,12 @@ abbrev pub taken_in : Row → ℕ → Bool
 taken_in row s = (get_or row.slots s vacant_slot).present
 
 -- the lowest slot of a row that holds none
-abbrev pub empty_in : Row → Found
+abbrev pub empty_in : Row → Option ℕ
 empty_in row = lowest_free (taken_in row) 0 4
 
 -- the lowest empty slot of row r; a bad row has none
-unfoldable pub empty_slot_of : Table → ℕ → Found
-empty_slot_of t r = pick (leb 54 r) Nowhere (empty_in (row_at t r))
+unfoldable pub empty_slot_of : Table → ℕ → Option ℕ
+empty_slot_of t r = pick (leb 54 r) None (empty_in (row_at t r))
 
 -- a slot that holds one of two ids becomes vacant, another stays as it is
 unfoldable pub forget_in : CapId → CapId → Slot → Slot

@@ -2,124 +2,83 @@
 ghost use Rattle.std.specs.Prelude.{◌≡◌};
 ghost use Rattle.laws.specs.Refusals.{none};
 ghost use Rattle.shown.specs.Shown.{shown, pushed_all};
-ghost use Rattle.capslots.specs.Answers.{seed_number, seed_values, install_number, install_values, transfer_number, transfer_values, held_values, drain_values, holds_values};
+ghost use Rattle.capslots.specs.Answers.{install_error_number, transfer_error_number, held_values, drain_values, holds_values};
 
 use crate::SLOTS;
-use cap::Slot;
+use cap::{Slot, WordError};
 use laws::refusals;
-use shown::{Shown, push};
+use shown::{Answer, Shown};
 
-#[derive(Drop)]
-pub enum SeedAnswer {
-    Seeded,
-    BadWord,
-}
+pub type SeedAnswer = Result<(), WordError>;
 
-// One refusal on purpose: a slot out of range and an occupied one carry the same detail.
-#[derive(Drop)]
-pub enum InstallAnswer {
-    Installed,
-    BadSlot,
-}
+pub type InstallAnswer = Result<(), InstallError>;
 
 // Whether the other task lives is no slot arithmetic, and stays the caller's refusal.
-#[derive(Drop)]
-pub enum TransferAnswer {
-    Transferred,
+pub type TransferAnswer = Result<(), TransferError>;
+
+// One refusal on purpose: a slot out of range and an occupied one carry the same detail.
+#[derive(Clone, Copy, PartialEq, Eq)]
+pub enum InstallError {
+    BadSlot = 10,
+}
+
+#[derive(Clone, Copy, PartialEq, Eq)]
+pub enum TransferError {
     // the source slot is empty or out of range
-    BadFromSlot,
+    BadFromSlot = 11,
     // the destination slot holds an id
-    ToSlotFull,
+    ToSlotFull = 12,
     // the destination slot is out of range
-    ToSlotOob,
+    ToSlotOob = 13,
     // what would move is no endpoint
-    Untransferable,
+    Untransferable = 14,
     // a row from 54 up
-    BadRow,
+    BadRow = 19,
 }
 
-impl SeedAnswer {
-    pub fn number(self) -> u8
-        ensures { result ≡ seed_number self }
-    {
-        match self {
-            SeedAnswer::Seeded => refusals::NONE,
-            SeedAnswer::BadWord => refusals::BAD_WORD,
-        }
-    }
+impl Answer for InstallError {
+    ghost number_of = { install_error_number };
 
-    pub fn shown(self) -> Shown
-        ensures { result ≡ shown (seed_number self) (seed_values self) }
-    {
-        shown::none(self.number())
+    fn shown(self) -> Shown {
+        Shown::new(self as u8, &[])
     }
 }
 
-impl InstallAnswer {
-    pub fn number(self) -> u8
-        ensures { result ≡ install_number self }
-    {
-        match self {
-            InstallAnswer::Installed => refusals::NONE,
-            InstallAnswer::BadSlot => refusals::BAD_SLOT,
-        }
-    }
+impl Answer for TransferError {
+    ghost number_of = { transfer_error_number };
 
-    pub fn shown(self) -> Shown
-        ensures { result ≡ shown (install_number self) (install_values self) }
-    {
-        shown::none(self.number())
-    }
-}
-
-impl TransferAnswer {
-    pub fn number(self) -> u8
-        ensures { result ≡ transfer_number self }
-    {
-        match self {
-            TransferAnswer::Transferred => refusals::NONE,
-            TransferAnswer::BadFromSlot => refusals::BAD_FROM_SLOT,
-            TransferAnswer::ToSlotFull => refusals::TO_SLOT_FULL,
-            TransferAnswer::ToSlotOob => refusals::TO_SLOT_OOB,
-            TransferAnswer::Untransferable => refusals::UNTRANSFERABLE,
-            TransferAnswer::BadRow => refusals::BAD_ROW,
-        }
-    }
-
-    pub fn shown(self) -> Shown
-        ensures { result ≡ shown (transfer_number self) (transfer_values self) }
-    {
-        shown::none(self.number())
+    fn shown(self) -> Shown {
+        Shown::new(self as u8, &[])
     }
 }
 
 // `0`, or `1 id`, after what is shown already.
+#[tactic(auto, unfolding(shown::specs::Shown::pushed_all, crate::specs::Answers::held_values, laws::specs::Pick::pick))]
 fn push_slot(s: Shown, slot: Slot) -> Shown
     ensures { result ≡ pushed_all s (held_values slot) }
 {
     if slot.present {
-        let one = push(s, 1);
-        return push(one, slot.id.raw as u64);
+        s.push(1).push(slot.id.raw as u64)
+    } else {
+        s.push(0)
     }
-    push(s, 0)
 }
 
 // What a drain shows of the slots that it took. Nothing refuses it.
 pub fn drain_shown(slots: [Slot; SLOTS]) -> Shown
     ensures { result ≡ shown none (drain_values slots) }
 {
-    let a = push_slot(shown::none(refusals::NONE), slots[0]);
-    let b = push_slot(a, slots[1]);
-    let c = push_slot(b, slots[2]);
-    push_slot(c, slots[3])
+    let mut s = Shown::new(refusals::NONE, &[]);
+    for slot in slots {
+        s = push_slot(s, slot);
+    }
+    s
 }
 
 // What the question whether a row holds an id shows. Nothing refuses it.
+#[tactic(auto, unfolding(crate::specs::Answers::holds_values, laws::specs::Pick::pick))]
 pub fn holds_shown(yes: bool) -> Shown
     ensures { result ≡ shown none (holds_values yes) }
 {
-    if yes {
-        return shown::one(refusals::NONE, 1);
-    }
-    shown::one(refusals::NONE, 0)
+    Shown::new(refusals::NONE, &[yes as u64])
 }

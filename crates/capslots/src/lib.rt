@@ -3,16 +3,20 @@
 
 ghost use Rattle.std.specs.Prelude.{◌≡◌};
 ghost use Rattle.capslots.specs.Table.{fresh_table};
-ghost use Rattle.capslots.specs.Rows.{names_id, get_of, holds_of, seed_of, install_of, drain_of};
+ghost use Rattle.capslots.specs.Rows.{get_of, holds_of, seed_of, install_of, drain_of};
 
-use cap::{CapId, ROWS, Slot, SlotAnswer};
+use cap::{CapId, ROWS, Slot, SlotAnswer, SlotError, WordError};
+use shown::Answered;
 
 mod answers;
 mod moves;
 mod vacancies;
 
-pub use answers::{InstallAnswer, SeedAnswer, TransferAnswer, drain_shown, holds_shown};
-pub use moves::{Transferred, transfer, transfer_bounds};
+pub use answers::{
+    InstallAnswer, InstallError, SeedAnswer, TransferAnswer, TransferError, drain_shown,
+    holds_shown,
+};
+pub use moves::{transfer, transfer_bounds};
 pub use vacancies::{empty_slot, forget};
 
 pub const SLOTS: usize = 4;
@@ -28,144 +32,97 @@ pub struct Table {
 }
 
 #[derive(Drop)]
-pub struct Seeded {
-    pub answer: SeedAnswer,
-    pub table: Table,
-}
-
-#[derive(Drop)]
-pub struct Installed {
-    pub answer: InstallAnswer,
-    pub table: Table,
-}
-
-#[derive(Drop)]
 pub struct Drained {
     pub slots: [Slot; SLOTS],
     pub table: Table,
 }
 
-const VACANT: Slot = Slot {
-    present: false,
-    id: CapId { raw: 0 },
-};
-
-const EMPTY_ROW: Row = Row {
-    slots: [VACANT; SLOTS],
-};
+impl Row {
+    const EMPTY: Row = Row {
+        slots: [Slot::VACANT; SLOTS],
+    };
+}
 
 pub fn new() -> Table
     ensures { result ≡ fresh_table }
 {
     Table {
-        rows: [EMPTY_ROW; ROWS],
+        rows: [Row::EMPTY; ROWS],
     }
 }
 
 // A row from 54 up answers as one with no slots.
+#[tactic(auto, unfolding(crate::specs::Rows::get_of, laws::specs::Pick::pick))]
 pub fn get(t: Table, row: usize, slot: usize) -> SlotAnswer
     ensures { result ≡ get_of t row slot }
 {
-    if row >= ROWS {
-        return SlotAnswer::OutOfRange { slot, slots: 0 };
-    }
-    let own = t.rows[row];
-    let slots = own.slots;
-    cap::from_slot(slots, slot)
-}
-
-fn names(held: Slot, id: CapId) -> bool
-    ensures { result ≡ names_id id held }
-{
-    if !held.present {
-        return false;
-    }
-    held.id.raw == id.raw
+    let Some(own) = t.rows.get(row) else {
+        return Err(SlotError::OutOfRange { slot, slots: 0 });
+    };
+    cap::from_slot(own.slots, slot)
 }
 
 // Whether any slot of the row holds the id.
+#[tactic(auto, unfolding(crate::specs::Rows::holds_of, laws::specs::Pick::pick))]
 pub fn holds(t: Table, row: usize, id: CapId) -> bool
     ensures { result ≡ holds_of t row id }
 {
-    if row >= ROWS {
+    let Some(own) = t.rows.get(row) else {
         return false;
-    }
-    let own = t.rows[row];
-    names(own.slots[0], id)
-        | names(own.slots[1], id)
-        | names(own.slots[2], id)
-        | names(own.slots[3], id)
+    };
+    own.slots.contains(&Slot::holding(id))
 }
 
 // A spawn's first row, holes included: a gap in the list is a vacant slot, and so is what lies past its end.
-pub fn seed(mut t: Table, row: usize, list: &[u64]) -> Seeded
+#[tactic(auto, unfolding(crate::specs::Rows::seed_of, laws::specs::Pick::pick))]
+pub fn seed(mut t: Table, row: usize, list: &[u64]) -> Answered<SeedAnswer, Table>
     ensures { result ≡ seed_of t row list.now }
 {
     if !cap::words_read(list) {
-        return Seeded {
-            answer: SeedAnswer::BadWord,
+        return Answered {
+            answer: Err(WordError::BadWord),
             table: t,
         };
     }
     if row < ROWS {
-        let a = cap::slot_at(list, 0);
-        let b = cap::slot_at(list, 1);
-        let c = cap::slot_at(list, 2);
-        let d = cap::slot_at(list, 3);
         t.rows[row] = Row {
-            slots: [a, b, c, d],
+            slots: std::array::from_fn(|i| cap::slot_at(list, i)),
         };
     }
-    Seeded {
-        answer: SeedAnswer::Seeded,
+    Answered {
+        answer: Ok(()),
         table: t,
     }
 }
 
-pub fn install(mut t: Table, row: usize, slot: usize, id: CapId) -> Installed
+#[tactic(auto, unfolding(crate::specs::Rows::install_of, laws::specs::Pick::pick))]
+pub fn install(mut t: Table, row: usize, slot: usize, id: CapId) -> Answered<InstallAnswer, Table>
     ensures { result ≡ install_of t row slot id }
 {
-    let bad = InstallAnswer::BadSlot;
-    if row >= ROWS {
-        return Installed {
-            answer: bad,
+    if row >= ROWS || slot >= SLOTS || t.rows[row].slots[slot].present {
+        return Answered {
+            answer: Err(InstallError::BadSlot),
             table: t,
         };
     }
-    if slot >= SLOTS {
-        return Installed {
-            answer: bad,
-            table: t,
-        };
-    }
-    let mut own = t.rows[row];
-    if own.slots[slot].present {
-        return Installed {
-            answer: bad,
-            table: t,
-        };
-    }
-    own.slots[slot] = Slot { present: true, id };
-    t.rows[row] = own;
-    Installed {
-        answer: InstallAnswer::Installed,
+    t.rows[row].slots[slot] = Slot::holding(id);
+    Answered {
+        answer: Ok(()),
         table: t,
     }
 }
 
 // Takes a row on its task's exit, for its holds to be released.
+#[tactic(auto, unfolding(crate::specs::Rows::drain_of, laws::specs::Pick::pick))]
 pub fn drain(mut t: Table, row: usize) -> Drained
     ensures { result ≡ drain_of t row }
 {
     if row >= ROWS {
         return Drained {
-            slots: [VACANT; SLOTS],
+            slots: [Slot::VACANT; SLOTS],
             table: t,
         };
     }
-    let own = t.rows[row];
-    let slots = own.slots;
-    let empty = EMPTY_ROW;
-    t.rows[row] = empty;
+    let Row { slots } = std::mem::replace(&mut t.rows[row], Row::EMPTY);
     Drained { slots, table: t }
 }

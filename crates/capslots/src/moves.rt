@@ -3,106 +3,91 @@ ghost use Rattle.std.specs.Prelude.{◌≡◌};
 ghost use Rattle.cap.specs.Id.{class_of};
 ghost use Rattle.capslots.specs.Transfer.{is_endpoint, bounds_of, transfer_of};
 
-use crate::answers::TransferAnswer;
-use crate::{SLOTS, Table, VACANT};
+use crate::answers::{TransferAnswer, TransferError};
+use crate::{SLOTS, Table};
 use cap::{CapClass, CapId, ROWS, Slot};
-
-#[derive(Drop)]
-pub struct Transferred {
-    pub answer: TransferAnswer,
-    pub table: Table,
-}
+use shown::Answered;
 
 // The bounds by themselves: a caller asks them first, then whether the other task lives, then for the whole transfer.
+#[tactic(auto, unfolding(crate::specs::Transfer::bounds_of, laws::specs::Pick::pick))]
 pub fn transfer_bounds(from_slot: usize, to_slot: usize) -> TransferAnswer
     ensures { result ≡ bounds_of from_slot to_slot }
 {
     if from_slot >= SLOTS {
-        return TransferAnswer::BadFromSlot;
+        return Err(TransferError::BadFromSlot);
     }
     if to_slot >= SLOTS {
-        return TransferAnswer::ToSlotOob;
+        return Err(TransferError::ToSlotOob);
     }
-    TransferAnswer::Transferred
+    Ok(())
 }
 
 fn is_endpoint(id: CapId) -> bool
     ensures { result ≡ is_endpoint (class_of id) }
 {
-    match id.classify() {
-        CapClass::Endpoint(_) => true,
-        CapClass::Task(_) => false,
-        CapClass::Irq(_) => false,
-        CapClass::Invalid => false,
-    }
+    matches!(id.classify(), CapClass::Endpoint(_))
 }
 
 // Only endpoints move: a moved task id would be delegation, and an IRQ id has one task that may arm it.
+#[tactic(auto, unfolding(crate::specs::Transfer::bounds_of, crate::specs::Transfer::transfer_of, laws::specs::Pick::pick))]
 pub fn transfer(
     mut t: Table,
     from_row: usize,
     from_slot: usize,
     to_row: usize,
     to_slot: usize,
-) -> Transferred
+) -> Answered<TransferAnswer, Table>
     ensures { result ≡ transfer_of t from_row from_slot to_row to_slot }
 {
     let bounds = transfer_bounds(from_slot, to_slot);
-    let TransferAnswer::Transferred = bounds else {
-        return Transferred {
+    let Ok(()) = bounds else {
+        return Answered {
             answer: bounds,
             table: t,
         };
     };
     if (from_row == to_row) & (from_slot == to_slot) {
-        return Transferred {
-            answer: TransferAnswer::Transferred,
+        return Answered {
+            answer: Ok(()),
             table: t,
         };
     }
     if from_row >= ROWS {
-        return Transferred {
-            answer: TransferAnswer::BadRow,
+        return Answered {
+            answer: Err(TransferError::BadRow),
             table: t,
         };
     }
-    let mut from = t.rows[from_row];
-    let held = from.slots[from_slot];
+    let held = t.rows[from_row].slots[from_slot];
     if !held.present {
-        return Transferred {
-            answer: TransferAnswer::BadFromSlot,
+        return Answered {
+            answer: Err(TransferError::BadFromSlot),
             table: t,
         };
     }
     let id = held.id;
-    let movable = is_endpoint(id);
-    if !movable {
-        return Transferred {
-            answer: TransferAnswer::Untransferable,
+    if !is_endpoint(id) {
+        return Answered {
+            answer: Err(TransferError::Untransferable),
             table: t,
         };
     }
     if to_row >= ROWS {
-        return Transferred {
-            answer: TransferAnswer::BadRow,
+        return Answered {
+            answer: Err(TransferError::BadRow),
             table: t,
         };
     }
-    let there = t.rows[to_row];
-    if there.slots[to_slot].present {
-        return Transferred {
-            answer: TransferAnswer::ToSlotFull,
+    if t.rows[to_row].slots[to_slot].present {
+        return Answered {
+            answer: Err(TransferError::ToSlotFull),
             table: t,
         };
     }
-    let vacant = VACANT;
-    from.slots[from_slot] = vacant;
-    t.rows[from_row] = from;
-    let mut to = t.rows[to_row];
-    to.slots[to_slot] = Slot { present: true, id };
-    t.rows[to_row] = to;
-    Transferred {
-        answer: TransferAnswer::Transferred,
+    t.rows[from_row].slots[from_slot] = Slot::VACANT;
+    t.rows[to_row].slots[to_slot] = Slot::holding(id);
+    Answered {
+        answer: Ok(()),
         table: t,
     }
 }

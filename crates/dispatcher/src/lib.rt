@@ -9,8 +9,8 @@ ghost use Rattle.dispatcher_rules.specs.Border.{Ready, ready_test, open_job_call
 
 use capslots::Table as Rows;
 use dispatcher_rules::answers::{
-    CloseAnswer, JobClosing, JobOpening, OpenAnswer, SlotParkAnswer, SlotParking, SlotReceiving,
-    SlotRecvAnswer, SlotSendAnswer, SlotSending,
+    BySlotError, CloseError, JobClosing, JobOpening, OpenError, SlotParking, SlotReceiving,
+    SlotSending,
 };
 use dispatcher_rules::state::{Dispatcher, Tag};
 use ipc_rules::state::{Payload, Table as Channels, TaskId};
@@ -34,7 +34,7 @@ pub fn open(d: Dispatcher, rows: Rows, channels: Channels, tag: Tag, extractor: 
 {
     if !ready(d, channels) {
         return JobOpening {
-            answer: OpenAnswer::BadTable,
+            answer: Err(OpenError::BadTable),
             dispatcher: d,
             rows,
             channels,
@@ -49,7 +49,7 @@ pub fn close(d: Dispatcher, rows: Rows, channels: Channels, place: usize) -> Job
 {
     if !ready(d, channels) {
         return JobClosing {
-            answer: CloseAnswer::BadTable,
+            answer: Err(CloseError::BadTable),
             dispatcher: d,
             rows,
             channels,
@@ -71,7 +71,7 @@ pub fn send(
 {
     if !ready(d, channels) {
         return SlotSending {
-            answer: SlotSendAnswer::BadTable,
+            answer: Err(BySlotError::BadTable),
             dispatcher: d,
             rows,
             channels,
@@ -92,7 +92,7 @@ pub fn receive(
 {
     if !ready(d, channels) {
         return SlotReceiving {
-            answer: SlotRecvAnswer::BadTable,
+            answer: Err(BySlotError::BadTable),
             dispatcher: d,
             rows,
             channels,
@@ -114,7 +114,7 @@ pub fn park(
 {
     if !ready(d, channels) {
         return SlotParking {
-            answer: SlotParkAnswer::BadTable,
+            answer: Err(BySlotError::BadTable),
             dispatcher: d,
             rows,
             channels,

@@ -1,4 +1,5 @@
 pub mod Binds
+pub mod Chained
 pub mod Choices
 pub mod Examples
 pub mod Guards

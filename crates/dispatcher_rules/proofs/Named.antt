@@ -1,4 +1,5 @@
 -- A slot that names an id stands in a row that holds it, and that row is one of the 54. Assumes nothing.
+use Rattle.std.specs.Prelude.{Ok, Result}
 use mathlib.Core.Path.{◌≡◌, refl, ap}
 use mathlib.Core.Bool.{Bool, true, false, ◌||◌}
 use mathlib.Core.Logic.{⊎_elim}
@@ -12,11 +13,10 @@ use Rattle.laws.specs.Every.{some}
 use Rattle.laws.proofs.Cases.{all_pick}
 use Rattle.cap.specs.Slot.{from_slot, slot_number}
 use Rattle.cap.specs.declared.CapId.{CapId}
-use Rattle.cap.specs.declared.slot.SlotAnswer.{SlotAnswer}
-use Rattle.cap.specs.declared.slot.SlotAnswer.TheVariants.{Names}
 use Rattle.capslots.specs.Table.{slot_in}
 use Rattle.capslots.specs.Rows.{names_id, get_of, holds_of}
 use Rattle.capslots.specs.declared.Table.{Table as Rows}
+use Rattle.cap.specs.declared.slot.SlotError.{SlotError}
 
 or_right : (a b : Bool) → b ≡ true → (a || b) ≡ true
 or_right true b e = refl
@@ -37,10 +37,10 @@ module _ (rows : Rows) (r s : ℕ) (c : CapId) where
   unfolding holds_of pick
   held l b n = rw l (some_at (λ p. names_id c (slot_in rows r p)) 4 s b n)
 
-  Held : SlotAnswer → Type 0
-  Held o = o ≡ Names c → holds_of rows r c ≡ true
+  Held : Result CapId SlotError → Type 0
+  Held o = o ≡ Ok c → holds_of rows r c ≡ true
 
-  pub names_held : get_of rows r s ≡ Names c → holds_of rows r c ≡ true
+  pub names_held : get_of rows r s ≡ Ok c → holds_of rows r c ≡ true
   unfolding get_of from_slot Held
   names_held =
       all_pick Held _ _ _ (λ _ e. absurd (omega (arith, ap slot_number e)))
@@ -48,9 +48,9 @@ module _ (rows : Rows) (r s : ℕ) (c : CapId) where
       (λ below. all_pick Held _ _ _ (λ present e. held l (ltb-true s 4 below) (slot_names present (cc))) (λ _ e. absurd (omega (arith, ap slot_number e))))
       (λ _ e. absurd (omega (arith, ap slot_number e))))
 
-  InRows : SlotAnswer → Type 0
-  InRows o = o ≡ Names c → r < 54
+  InRows : Result CapId SlotError → Type 0
+  InRows o = o ≡ Ok c → r < 54
 
-  pub names_row : get_of rows r s ≡ Names c → r < 54
+  pub names_row : get_of rows r s ≡ Ok c → r < 54
   unfolding get_of InRows
   names_row = all_pick InRows _ _ _ (λ _ e. absurd (omega (arith, ap slot_number e))) (λ l _. leb-false 54 r l)

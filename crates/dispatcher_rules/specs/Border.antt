@@ -1,6 +1,6 @@
 -- Request No. 5, refusal 27: every call but making refuses, first of all, a channel table that is not sound and a dispatcher that breaks
 -- making's rules, and gives back all that it was lent as it was.
-use Rattle.std.specs.Prelude.{Bool, ◌&&◌, ℕ}
+use Rattle.std.specs.Prelude.{Bool, ◌&&◌, ℕ, Err}
 use Rattle.laws.specs.Pick.{pick}
 use Rattle.capslots.specs.declared.Table.{Table as Rows}
 use Rattle.ipc_rules.specs.Sound.{Sound}
@@ -15,15 +15,13 @@ use Rattle.dispatcher_rules.specs.Slots.{slot_sent, slot_send_of, slot_received,
 use Rattle.dispatcher_rules.specs.declared.state.Tag.{Tag}
 use Rattle.dispatcher_rules.specs.declared.state.Dispatcher.{Dispatcher}
 use Rattle.dispatcher_rules.specs.declared.answers.JobOpening.{JobOpening}
-use Rattle.dispatcher_rules.specs.declared.answers.OpenAnswer as opening
+use Rattle.dispatcher_rules.specs.declared.answers.OpenError.TheVariants as opening
 use Rattle.dispatcher_rules.specs.declared.answers.JobClosing.{JobClosing}
-use Rattle.dispatcher_rules.specs.declared.answers.CloseAnswer as close
+use Rattle.dispatcher_rules.specs.declared.answers.CloseError.TheVariants as close
 use Rattle.dispatcher_rules.specs.declared.answers.SlotSending.{SlotSending}
-use Rattle.dispatcher_rules.specs.declared.answers.SlotSendAnswer as send
+use Rattle.dispatcher_rules.specs.declared.answers.BySlotError.TheVariants as by_slot_error
 use Rattle.dispatcher_rules.specs.declared.answers.SlotReceiving.{SlotReceiving}
-use Rattle.dispatcher_rules.specs.declared.answers.SlotRecvAnswer as recv
 use Rattle.dispatcher_rules.specs.declared.answers.SlotParking.{SlotParking}
-use Rattle.dispatcher_rules.specs.declared.answers.SlotParkAnswer as park
 
 -- a dispatcher that keeps making's rules, and a sound channel table
 pub record Ready (d : Dispatcher) (t : Channels) : Type 0 where
@@ -41,16 +39,16 @@ module _ (d : Dispatcher) (t : Channels) where
 
 module _ (d : Dispatcher) (rows : Rows) (t : Channels) where
   abbrev pub open_job_call : Tag → ℕ → JobOpening
-  open_job_call tag x = guarded_by d t (open_refused opening.TheVariants.BadTable d rows t) (open_job_of d rows t tag x)
+  open_job_call tag x = guarded_by d t (open_refused (Err opening.BadTable) d rows t) (open_job_of d rows t tag x)
 
   abbrev pub close_job_call : ℕ → JobClosing
-  close_job_call p = guarded_by d t (close_refused close.TheVariants.BadTable d rows t) (close_job_of d rows t p)
+  close_job_call p = guarded_by d t (close_refused (Err close.BadTable) d rows t) (close_job_of d rows t p)
 
   abbrev pub slot_send_call : ℕ → ℕ → Payload → SlotSending
-  slot_send_call r s p = guarded_by d t (slot_sent send.TheVariants.BadTable d rows t) (slot_send_of d rows t r s p)
+  slot_send_call r s p = guarded_by d t (slot_sent (Err by_slot_error.BadTable) d rows t) (slot_send_of d rows t r s p)
 
   abbrev pub slot_recv_call : ℕ → ℕ → SlotReceiving
-  slot_recv_call r s = guarded_by d t (slot_received recv.TheVariants.BadTable d rows t) (slot_recv_of d rows t r s)
+  slot_recv_call r s = guarded_by d t (slot_received (Err by_slot_error.BadTable) d rows t) (slot_recv_of d rows t r s)
 
   abbrev pub slot_park_call : ℕ → ℕ → TaskId → SlotParking
-  slot_park_call r s task = guarded_by d t (slot_parked park.TheVariants.BadTable d rows t) (slot_park_of d rows t r s task)
+  slot_park_call r s task = guarded_by d t (slot_parked (Err by_slot_error.BadTable) d rows t) (slot_park_of d rows t r s task)

@@ -1,21 +1,27 @@
 // What the dispatcher's calls answer, with everything that was lent beside it.
+ghost use Rattle.std.specs.Prelude.{◌≡◌};
+ghost use Rattle.dispatcher_rules.specs.Open.{refused_creation};
+ghost use Rattle.dispatcher_rules.specs.Slots.{refused_slot};
+
 use crate::state::Dispatcher;
-use cap::CapId;
+use cap::{CapId, SlotError};
 use capslots::Table as Rows;
-use ipc_rules::answers::{ParkAnswer, RecvAnswer, SendAnswer};
+use ipc_rules::answers::{CreateError, ParkAnswer, RecvAnswer, SendAnswer};
 use ipc_rules::state::{Table as Channels, Waiter};
 
-#[derive(Clone, Copy)]
-pub enum MakeAnswer {
-    Made,
-    BadVariants,
-}
+pub type MakeAnswer = Result<(), MakeError>;
 
-#[derive(Drop)]
-pub struct Making {
-    pub answer: MakeAnswer,
-    pub dispatcher: Dispatcher,
-}
+pub type OpenAnswer = Result<OpenedJob, OpenError>;
+
+// the task to wake, if one was parked
+pub type CloseAnswer = Result<Waiter, CloseError>;
+
+// By row and slot: what the channel table's own call answers for the id that stands there, or a refusal of the slot.
+pub type SlotSendAnswer = Result<SendAnswer, BySlotError>;
+
+pub type SlotRecvAnswer = Result<RecvAnswer, BySlotError>;
+
+pub type SlotParkAnswer = Result<ParkAnswer, BySlotError>;
 
 // The place that a job got, and its channel's two ids.
 #[derive(Clone, Copy)]
@@ -25,20 +31,73 @@ pub struct OpenedJob {
     pub recv: CapId,
 }
 
-#[derive(Clone, Copy)]
-pub enum OpenAnswer {
-    Opened(OpenedJob),
+#[derive(Clone, Copy, PartialEq, Eq)]
+pub enum MakeError {
+    BadVariants = 37,
+}
+
+#[derive(Clone, Copy, PartialEq, Eq)]
+pub enum OpenError {
     // no variant has the tag
-    NoVariant,
+    NoVariant = 29,
     // the extractor's row is from 54 up
-    BadRow,
+    BadRow = 19,
     // all places are open
-    JobsFull,
-    NoMailbox,
-    NoEndpoint,
+    JobsFull = 30,
+    NoMailbox = 6,
+    NoEndpoint = 7,
     // the empty slots that are needed are not there
-    BadSlot,
+    BadSlot = 10,
+    BadTable = 27,
+}
+
+impl From<CreateError> for OpenError {
+    ghost from_gives = { λ e r. r ≡ refused_creation e };
+
+    fn from(refusal: CreateError) -> OpenError {
+        match refusal {
+            CreateError::NoMailbox => OpenError::NoMailbox,
+            CreateError::NoEndpoint => OpenError::NoEndpoint,
+            CreateError::BadTable => OpenError::BadTable,
+        }
+    }
+}
+
+#[derive(Clone, Copy, PartialEq, Eq)]
+pub enum CloseError {
+    NoJob = 38,
+    BadTable = 27,
+}
+
+#[derive(Clone, Copy, PartialEq, Eq)]
+pub enum BySlotError {
+    OutOfRange { slot: usize, slots: usize },
+    Vacant { slot: usize },
     BadTable,
+}
+
+impl From<SlotError> for BySlotError {
+    ghost from_gives = { λ e r. r ≡ refused_slot e };
+
+    fn from(refusal: SlotError) -> BySlotError {
+        match refusal {
+            SlotError::OutOfRange { slot, slots } => BySlotError::OutOfRange { slot, slots },
+            SlotError::Vacant { slot } => BySlotError::Vacant { slot },
+        }
+    }
+}
+
+#[derive(Drop)]
+pub struct Making {
+    pub answer: MakeAnswer,
+    pub dispatcher: Dispatcher,
+}
+
+// What the end of a job's channel leaves, and the task to wake.
+#[derive(Drop)]
+pub struct Ending {
+    pub waiter: Waiter,
+    pub channels: Channels,
 }
 
 #[derive(Drop)]
@@ -46,21 +105,6 @@ pub struct JobOpening {
     pub answer: OpenAnswer,
     pub dispatcher: Dispatcher,
     pub rows: Rows,
-    pub channels: Channels,
-}
-
-#[derive(Clone, Copy)]
-pub enum CloseAnswer {
-    // the task to wake, if one was parked
-    Closed(Waiter),
-    NoJob,
-    BadTable,
-}
-
-// What the end of a job's channel leaves, and the task to wake.
-#[derive(Drop)]
-pub struct Ending {
-    pub waiter: Waiter,
     pub channels: Channels,
 }
 
@@ -72,15 +116,6 @@ pub struct JobClosing {
     pub channels: Channels,
 }
 
-// By row and slot: a refusal of the slot, or what the channel table's own call answers for the id that stands there.
-#[derive(Clone, Copy)]
-pub enum SlotSendAnswer {
-    Answered(SendAnswer),
-    OutOfRange { slot: usize, slots: usize },
-    Vacant { slot: usize },
-    BadTable,
-}
-
 #[derive(Drop)]
 pub struct SlotSending {
     pub answer: SlotSendAnswer,
@@ -89,28 +124,12 @@ pub struct SlotSending {
     pub channels: Channels,
 }
 
-#[derive(Clone, Copy)]
-pub enum SlotRecvAnswer {
-    Answered(RecvAnswer),
-    OutOfRange { slot: usize, slots: usize },
-    Vacant { slot: usize },
-    BadTable,
-}
-
 #[derive(Drop)]
 pub struct SlotReceiving {
     pub answer: SlotRecvAnswer,
     pub dispatcher: Dispatcher,
     pub rows: Rows,
     pub channels: Channels,
-}
-
-#[derive(Clone, Copy)]
-pub enum SlotParkAnswer {
-    Answered(ParkAnswer),
-    OutOfRange { slot: usize, slots: usize },
-    Vacant { slot: usize },
-    BadTable,
 }
 
 #[derive(Drop)]

@@ -5,6 +5,5 @@
 #![tactic(auto)]
 
 pub mod answers;
-pub mod numbers;
 pub mod showing;
 pub mod state;

@@ -2,91 +2,73 @@
 // and how many the row has, 9 the slot.
 ghost use Rattle.std.specs.Prelude.{◌≡◌};
 ghost use Rattle.shown.specs.Shown.{shown};
-ghost use Rattle.dispatcher_rules.specs.Answers.{make_number, make_values, open_number, open_values, close_number, close_values, slot_send_number, slot_send_values, slot_recv_number, slot_recv_values, slot_park_number, slot_park_values};
+ghost use Rattle.dispatcher_rules.specs.Answers.{make_error_number, open_error_number, opened_values, close_error_number, by_slot_number, by_slot_values, slot_park_number, slot_park_values};
 
-use crate::answers::{
-    CloseAnswer, MakeAnswer, OpenAnswer, SlotParkAnswer, SlotRecvAnswer, SlotSendAnswer,
-};
-use ipc_rules::showing::waiter_shown;
+use crate::answers::{BySlotError, CloseError, MakeError, OpenError, OpenedJob, SlotParkAnswer};
+use ipc_rules::showing::park_shown;
 use laws::refusals;
-use shown::Shown;
+use shown::{Answer, Shown};
 
-impl MakeAnswer {
-    pub fn shown(self) -> Shown
-        ensures { result ≡ shown (make_number self) (make_values self) }
-    {
-        shown::none(self.number())
-    }
-}
+impl Answer for OpenedJob {
+    ghost values_of = { opened_values };
 
-impl OpenAnswer {
-    pub fn shown(self) -> Shown
-        ensures { result ≡ shown (open_number self) (open_values self) }
-    {
-        let OpenAnswer::Opened(j) = self else {
-            return shown::none(self.number());
-        };
-        shown::three(
+    fn shown(self) -> Shown {
+        Shown::new(
             refusals::NONE,
-            j.place as u64,
-            j.send.raw as u64,
-            j.recv.raw as u64,
+            &[
+                self.place as u64,
+                self.send.raw as u64,
+                self.recv.raw as u64,
+            ],
         )
     }
 }
 
-impl CloseAnswer {
-    pub fn shown(self) -> Shown
-        ensures { result ≡ shown (close_number self) (close_values self) }
-    {
-        let CloseAnswer::Closed(w) = self else {
-            return shown::none(self.number());
-        };
-        waiter_shown(w)
+impl Answer for MakeError {
+    ghost number_of = { make_error_number };
+
+    fn shown(self) -> Shown {
+        Shown::new(self as u8, &[])
     }
 }
 
-impl SlotSendAnswer {
-    pub fn shown(self) -> Shown
-        ensures { result ≡ shown (slot_send_number self) (slot_send_values self) }
-    {
+impl Answer for OpenError {
+    ghost number_of = { open_error_number };
+
+    fn shown(self) -> Shown {
+        Shown::new(self as u8, &[])
+    }
+}
+
+impl Answer for CloseError {
+    ghost number_of = { close_error_number };
+
+    fn shown(self) -> Shown {
+        Shown::new(self as u8, &[])
+    }
+}
+
+impl Answer for BySlotError {
+    ghost number_of = { by_slot_number };
+
+    ghost values_of = { by_slot_values };
+
+    fn shown(self) -> Shown {
         match self {
-            SlotSendAnswer::Answered(a) => a.shown(),
-            SlotSendAnswer::OutOfRange { slot, slots } => {
-                shown::two(refusals::OUT_OF_RANGE, slot as u64, slots as u64)
+            BySlotError::OutOfRange { slot, slots } => {
+                Shown::new(refusals::OUT_OF_RANGE, &[slot as u64, slots as u64])
             }
-            SlotSendAnswer::Vacant { slot } => shown::one(refusals::VACANT, slot as u64),
-            SlotSendAnswer::BadTable => shown::none(refusals::BAD_TABLE),
+            BySlotError::Vacant { slot } => Shown::new(refusals::VACANT, &[slot as u64]),
+            BySlotError::BadTable => Shown::new(refusals::BAD_TABLE, &[]),
         }
     }
 }
 
-impl SlotRecvAnswer {
-    pub fn shown(self) -> Shown
-        ensures { result ≡ shown (slot_recv_number self) (slot_recv_values self) }
-    {
-        match self {
-            SlotRecvAnswer::Answered(a) => a.shown(),
-            SlotRecvAnswer::OutOfRange { slot, slots } => {
-                shown::two(refusals::OUT_OF_RANGE, slot as u64, slots as u64)
-            }
-            SlotRecvAnswer::Vacant { slot } => shown::one(refusals::VACANT, slot as u64),
-            SlotRecvAnswer::BadTable => shown::none(refusals::BAD_TABLE),
-        }
-    }
-}
-
-impl SlotParkAnswer {
-    pub fn shown(self) -> Shown
-        ensures { result ≡ shown (slot_park_number self) (slot_park_values self) }
-    {
-        match self {
-            SlotParkAnswer::Answered(a) => a.shown(),
-            SlotParkAnswer::OutOfRange { slot, slots } => {
-                shown::two(refusals::OUT_OF_RANGE, slot as u64, slots as u64)
-            }
-            SlotParkAnswer::Vacant { slot } => shown::one(refusals::VACANT, slot as u64),
-            SlotParkAnswer::BadTable => shown::none(refusals::BAD_TABLE),
-        }
+pub fn slot_park_shown(answer: SlotParkAnswer) -> Shown
+    ensures { result ≡ shown (slot_park_number answer) (slot_park_values answer) }
+{
+    match answer {
+        Ok(parked) => park_shown(parked),
+        Err(refusal) => refusal.shown(),
     }
 }

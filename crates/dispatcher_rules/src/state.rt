@@ -8,7 +8,7 @@ pub const MAX_VARIANTS: usize = 16;
 pub const MAX_JOBS: usize = 16;
 
 // Five bytes, such as `pt-PT`.
-#[derive(Clone, Copy)]
+#[derive(Clone, Copy, PartialEq, Eq)]
 pub struct Tag {
     pub bytes: [u8; 5],
 }

@@ -1,123 +1,105 @@
-// Reads an operation log on standard input, prints what replay prints of it, and then every field of every table, one a line. Each
-// function answers whether what it prints was written whole.
+// Reads an operation log on standard input, prints what replay prints of it, and then every field of every table, one a line.
 #![tactic(auto)]
 
-ghost use Rattle.std.specs.Prelude.{◌<◌};
-
-use capslots::{Row, Table as Rows};
-use ipc_rules::state::{
-    Endpoint, MAX_DEPTH, MAX_ENDPOINTS, MAX_MAILBOXES, Mailbox, Refusals, Sizes, Table as Channels,
-};
-use irqcap::Table as Irqs;
+use cap::Slot;
+use capslots::Table as Rows;
+use ipc_rules::state::{Endpoint, MAX_DEPTH, Mailbox, Message, Table as Channels, Waiter};
 use mint::Entry;
 use operations::Tables;
-use show::{field, field_of};
-use taskcap::Table as Tasks;
+use std::io;
 
-mod show;
-
-fn head<P: Print>(to: &P, sizes: Sizes, next: u16, counts: Refusals) -> bool {
-    field(to, b"channels m", sizes.mailboxes as u64)
-        & field(to, b"channels e", sizes.endpoints as u64)
-        & field(to, b"channels d", sizes.depth as u64)
-        & field(to, b"channels next", next as u64)
-        & field(to, b"counts authority", counts.authority as u64)
-        & field(to, b"counts full", counts.full as u64)
-        & field(to, b"counts state", counts.state as u64)
+fn head<P: Print>(to: &P, t: &Channels) -> io::Result<()> {
+    let sizes = t.sizes;
+    let counts = t.counters.refusals;
+    println!(to; "channels m {}", sizes.mailboxes)?;
+    println!(to; "channels e {}", sizes.endpoints)?;
+    println!(to; "channels d {}", sizes.depth)?;
+    println!(to; "channels next {}", t.counters.next_gen)?;
+    println!(to; "counts authority {}", counts.authority)?;
+    println!(to; "counts full {}", counts.full)?;
+    println!(to; "counts state {}", counts.state)
 }
 
-fn mailbox<P: Print>(to: &P, i: usize, b: Mailbox) -> bool {
-    field_of(to, b"mailbox", i, b" live", show::flag(b.is_live()))
-        & field_of(to, b"mailbox", i, b" ephemeral", show::flag(b.ephemeral))
-        & field_of(to, b"mailbox", i, b" holds", b.send_holders as u64)
-        & field_of(to, b"mailbox", i, b" head", b.ring.head as u64)
-        & field_of(to, b"mailbox", i, b" tail", b.ring.tail as u64)
-        & field_of(to, b"mailbox", i, b" length", b.ring.len as u64)
-        & show::waiter(to, i, b.waiter)
+fn waiter<P: Print>(to: &P, i: usize, w: Waiter) -> io::Result<()> {
+    if !w.present {
+        return println!(to; "mailbox {i} waiter 0");
+    }
+    println!(to; "mailbox {i} waiter 1 {} {}", w.task.slot, w.task.epoch)
 }
 
-fn endpoint<P: Print>(to: &P, i: usize, e: Endpoint) -> bool {
-    field_of(to, b"endpoint", i, b" live", show::flag(e.is_live()))
-        & field_of(to, b"endpoint", i, b" generation", e.generation as u64)
-        & field_of(to, b"endpoint", i, b" rights", e.rights.bits as u64)
-        & field_of(to, b"endpoint", i, b" mailbox", e.mailbox as u64)
+fn mailbox<P: Print>(to: &P, i: usize, b: &Mailbox) -> io::Result<()> {
+    println!(to; "mailbox {i} live {}", b.is_live() as u8)?;
+    println!(to; "mailbox {i} ephemeral {}", b.ephemeral as u8)?;
+    println!(to; "mailbox {i} holds {}", b.send_holders)?;
+    println!(to; "mailbox {i} head {}", b.ring.head)?;
+    println!(to; "mailbox {i} tail {}", b.ring.tail)?;
+    println!(to; "mailbox {i} length {}", b.ring.len)?;
+    waiter(to, i, b.waiter)
 }
 
-fn row<P: Print>(to: &P, r: usize, x: Row) -> bool {
-    show::slot(to, r, 0, x.slots[0])
-        & show::slot(to, r, 1, x.slots[1])
-        & show::slot(to, r, 2, x.slots[2])
-        & show::slot(to, r, 3, x.slots[3])
+fn place<P: Print>(to: &P, i: usize, p: usize, m: &Message) -> io::Result<()> {
+    println!(to; "mailbox {i} place {p} {} {} {} {}", m.tag, m.a, m.b, m.row)
 }
 
-fn entry<P: Print>(to: &P, table: &[u8], i: usize, x: Entry) -> bool {
-    field_of(to, table, i, b" live", show::flag(x.live))
-        & field_of(to, table, i, b" generation", x.generation as u64)
-        & field_of(to, table, i, b" number", x.number as u64)
+fn endpoint<P: Print>(to: &P, i: usize, e: &Endpoint) -> io::Result<()> {
+    println!(to; "endpoint {i} live {}", e.is_live() as u8)?;
+    println!(to; "endpoint {i} generation {}", e.generation)?;
+    println!(to; "endpoint {i} rights {}", e.rights.bits)?;
+    println!(to; "endpoint {i} mailbox {}", e.mailbox)
 }
 
-fn places<P: Print>(to: &P, i: usize, t: &Channels) -> bool
-    requires { i < 32 }
-{
-    let mut whole = true;
-    for p in 0..MAX_DEPTH {
-        if p < t.sizes.depth {
-            let at = i * MAX_DEPTH + p;
-            whole = whole & show::place(to, i, p, t.messages[at]);
+fn channels<P: Print>(to: &P, t: &Channels) -> io::Result<()> {
+    head(to, t)?;
+    let boxes = t.mailboxes.iter().zip(t.messages.chunks(MAX_DEPTH));
+    for (i, (b, ring)) in boxes.enumerate().take(t.sizes.mailboxes) {
+        mailbox(to, i, b)?;
+        for (p, m) in ring.iter().enumerate().take(t.sizes.depth) {
+            place(to, i, p, m)?;
         }
     }
-    whole
+    for (i, e) in t.endpoints.iter().enumerate().take(t.sizes.endpoints) {
+        endpoint(to, i, e)?;
+    }
+    Ok(())
 }
 
-fn channels<P: Print>(to: &P, t: &Channels) -> bool {
-    let mut whole = head(to, t.sizes, t.counters.next_gen, t.counters.refusals);
-    for k in 0..MAX_MAILBOXES {
-        if k < t.sizes.mailboxes {
-            whole = whole & mailbox(to, k, t.mailboxes[k]) & places(to, k, t);
+fn slot<P: Print>(to: &P, r: usize, s: usize, x: &Slot) -> io::Result<()> {
+    if !x.present {
+        return println!(to; "row {r} slot {s} 0");
+    }
+    println!(to; "row {r} slot {s} 1 {}", x.id.raw)
+}
+
+fn rows<P: Print>(to: &P, t: &Rows) -> io::Result<()> {
+    for (r, row) in t.rows.iter().enumerate() {
+        for (s, x) in row.slots.iter().enumerate() {
+            slot(to, r, s, x)?;
         }
     }
-    for i in 0..MAX_ENDPOINTS {
-        if i < t.sizes.endpoints {
-            whole = whole & endpoint(to, i, t.endpoints[i]);
-        }
-    }
-    whole
+    Ok(())
 }
 
-fn rows<P: Print>(to: &P, t: &Rows) -> bool {
-    let mut whole = true;
-    for r in 0..cap::ROWS {
-        whole = whole & row(to, r, t.rows[r]);
+// The entries of a mint table.
+fn entries<P: Print>(to: &P, table: &str, all: &[Entry]) -> io::Result<()> {
+    for (i, x) in all.iter().enumerate() {
+        println!(to; "{table} {i} live {}", x.live as u8)?;
+        println!(to; "{table} {i} generation {}", x.generation)?;
+        println!(to; "{table} {i} number {}", x.number)?;
     }
-    whole
+    Ok(())
 }
 
-fn tasks<P: Print>(to: &P, t: &Tasks) -> bool {
-    let mut whole = true;
-    for i in 0..taskcap::MAX_TASK_CAPS {
-        whole = whole & entry(to, b"task", i, t.entries[i]);
-    }
-    whole
-}
-
-fn irqs<P: Print>(to: &P, t: &Irqs) -> bool {
-    let mut whole = true;
-    for i in 0..irqcap::MAX_IRQ_CAPS {
-        whole = whole & entry(to, b"irq", i, t.entries[i]);
-    }
-    whole
-}
-
-// Every table, and whether all of it was written.
-fn tables<P: Print>(to: &P, t: &Tables) -> bool {
-    channels(to, &t.channels) & rows(to, &t.rows) & tasks(to, &t.tasks) & irqs(to, &t.irqs)
+fn tables<P: Print>(to: &P, t: &Tables) -> io::Result<()> {
+    channels(to, &t.channels)?;
+    rows(to, &t.rows)?;
+    entries(to, "task", &t.tasks.entries)?;
+    entries(to, "irq", &t.irqs.entries)
 }
 
 fn main(rt: HostRuntime) {
-    let played = player::play(&rt);
-    if played.whole {
-        if !tables(&rt, &played.tables) {
-            standard::tell_unwritten(&rt);
-        }
+    if let Some(t) = player::play(&rt)
+        && tables(&rt, &t).is_err()
+    {
+        standard::tell_unwritten(&rt);
     }
 }

@@ -4,23 +4,10 @@
 // document 01.
 #![tactic(auto)]
 
-use edgescript::{operands, print, script};
+use edgescript::script;
 
 mod joining;
 
 fn main(rt: HostRuntime) {
-    let mut reader = rt.stdin();
-    let mut both = joining::fresh();
-    for _ in 0..script::MOST_CALLS {
-        let mut words = [0u64; script::ROOM];
-        let n = script::call(&mut reader, &rt, &mut words);
-        if n == 0 {
-            return;
-        }
-        let line = &words[..n];
-        let op = operands::byte(line, 0);
-        let w = operands::rest(line, 1);
-        both = joining::call(&rt, op, both, w);
-        print::end(&rt);
-    }
+    script::play(&mut rt.stdin(), &rt, &mut joining::fresh());
 }

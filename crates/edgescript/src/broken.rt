@@ -1,6 +1,5 @@
 // Parts of the channel table set and looked at: this way come tables that no call makes.
-use crate::operands::{at, byte, long, refusals, rest, short, size, task};
-use crate::{operands, print};
+use crate::operands::{at, byte, long, message, refusals, rest, short, size, task};
 use cap::CapRights;
 use ipc_rules::state::{
     Counters, Endpoint, MAX_DEPTH, MAX_ENDPOINTS, MAX_MAILBOXES, Mailbox, Sizes, Table, Waiter,
@@ -33,83 +32,54 @@ fn sizes(w: &[u64]) -> Sizes {
 }
 
 fn counters(w: &[u64]) -> Counters {
-    let refusals = refusals(rest(w, 1));
     Counters {
         next_gen: short(w, 0),
-        refusals,
+        refusals: refusals(rest(w, 1)),
     }
 }
 
 fn endpoint(w: &[u64]) -> Endpoint {
-    let rights = CapRights { bits: byte(w, 2) };
     Endpoint {
         live: at(w, 0) == 1,
         generation: short(w, 1),
-        rights,
+        rights: CapRights { bits: byte(w, 2) },
         mailbox: byte(w, 3),
     }
 }
 
 fn mailbox(w: &[u64]) -> Mailbox {
-    let ring = Ring {
-        head: size(w, 1),
-        tail: size(w, 2),
-        len: size(w, 3),
-    };
-    let waiter = Waiter {
-        present: at(w, 4) == 1,
-        task: task(rest(w, 5)),
-    };
     Mailbox {
         live: at(w, 0) == 1,
-        ring,
-        waiter,
+        ring: Ring {
+            head: size(w, 1),
+            tail: size(w, 2),
+            len: size(w, 3),
+        },
+        waiter: Waiter {
+            present: at(w, 4) == 1,
+            task: task(rest(w, 5)),
+        },
         send_holders: long(w, 7),
         ephemeral: at(w, 8) == 1,
     }
 }
 
-fn set_head(mut t: Table, w: &[u64]) -> Table {
-    let z = sizes(w);
-    let c = counters(rest(w, 3));
-    t.sizes = z;
-    t.counters = c;
-    t
-}
-
-fn set_endpoint(mut t: Table, w: &[u64]) -> Table {
-    let i = size(w, 0) % MAX_ENDPOINTS;
-    t.endpoints[i] = endpoint(rest(w, 1));
-    t
-}
-
-fn set_mailbox(mut t: Table, w: &[u64]) -> Table {
-    let k = size(w, 0) % MAX_MAILBOXES;
-    t.mailboxes[k] = mailbox(rest(w, 1));
-    t
-}
-
-fn set_message(mut t: Table, w: &[u64]) -> Table {
-    let p = size(w, 0) % MAX_MESSAGES;
-    t.messages[p] = operands::message(rest(w, 1));
-    t
-}
-
 // The part that the number names; the table as it was where it names none.
-pub fn set(op: u8, t: Table, w: &[u64]) -> Table {
+pub fn set(op: u8, mut t: Table, w: &[u64]) -> Table {
     match op {
-        SET_HEAD => set_head(t, w),
-        SET_ENDPOINT => set_endpoint(t, w),
-        SET_MAILBOX => set_mailbox(t, w),
-        SET_MESSAGE => set_message(t, w),
-        _ => t,
+        SET_HEAD => {
+            t.sizes = sizes(w);
+            t.counters = counters(rest(w, 3));
+        }
+        SET_ENDPOINT => t.endpoints[size(w, 0) % MAX_ENDPOINTS] = endpoint(rest(w, 1)),
+        SET_MAILBOX => t.mailboxes[size(w, 0) % MAX_MAILBOXES] = mailbox(rest(w, 1)),
+        SET_MESSAGE => t.messages[size(w, 0) % MAX_MESSAGES] = message(rest(w, 1)),
+        _ => {}
     }
+    t
 }
 
 // Next generation, m, e and d.
 pub fn look<P: Print>(to: &P, next: u16, z: Sizes) {
-    print::value(to, next as u64);
-    print::value(to, z.mailboxes as u64);
-    print::value(to, z.endpoints as u64);
-    print::value(to, z.depth as u64);
+    let _ = print!(to; " {next} {} {} {}", z.mailboxes, z.endpoints, z.depth);
 }

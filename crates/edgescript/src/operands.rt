@@ -1,22 +1,15 @@
 // The numbers of a call as its operands. What a line does not have is 0; what is too great for an operand wraps.
 use cap::{CapId, Slot};
 use ipc_rules::state::{Message, Payload, Refusals, TaskId};
-
-const PRESENT: u64 = 4294967296;
+use std::array;
 
 pub fn at(w: &[u64], i: usize) -> u64 {
-    if i < w.len() {
-        return w[i];
-    }
-    0
+    w.get(i).copied().unwrap_or(0)
 }
 
 // The numbers from the i-th on.
 pub fn rest(w: &[u64], i: usize) -> &[u64] {
-    if i <= w.len() {
-        return &w[i..];
-    }
-    &w[..0]
+    w.get(i..).unwrap_or(&[])
 }
 
 pub fn byte(w: &[u64], i: usize) -> u8 {
@@ -28,7 +21,7 @@ pub fn short(w: &[u64], i: usize) -> u16 {
 }
 
 pub fn long(w: &[u64], i: usize) -> u32 {
-    (at(w, i) % PRESENT) as u32
+    (at(w, i) % 4294967296) as u32
 }
 
 pub fn size(w: &[u64], i: usize) -> usize {
@@ -68,11 +61,7 @@ pub fn message(w: &[u64]) -> Message {
 
 // Four slots as words; a word that does not read is vacant.
 pub fn four(w: &[u64]) -> [Slot; 4] {
-    let a = cap::slot_at(w, 0);
-    let b = cap::slot_at(w, 1);
-    let c = cap::slot_at(w, 2);
-    let d = cap::slot_at(w, 3);
-    [a, b, c, d]
+    array::from_fn(|i| cap::slot_at(w, i))
 }
 
 // Authority, full, state.

@@ -4,49 +4,38 @@ use cap::Slot;
 use ipc_rules::state::Refusals;
 use shown::Shown;
 
-pub fn text<P: Print>(to: &P, bytes: &[u8]) {
-    let _ = to.write_all(bytes);
+pub fn text<P: Print>(to: &P, text: &str) {
+    let _ = to.print(text);
 }
 
 pub fn value<P: Print>(to: &P, n: u64) {
-    text(to, b" ");
-    let _ = to.print(n);
+    let _ = print!(to; " {n}");
 }
 
 pub fn end<P: Print>(to: &P) {
-    text(to, b"\n");
+    let _ = println!(to);
 }
 
 // The number, and the values that are shown.
 pub fn answer<P: Print>(to: &P, s: Shown) {
     value(to, s.number as u64);
-    for i in 0..12 {
-        if i < s.count {
-            value(to, s.values[i]);
-        }
+    for n in s.values.iter().take(s.count) {
+        value(to, *n);
     }
 }
 
-// 0, or 1 and the id.
-fn slot<P: Print>(to: &P, s: Slot) {
-    if s.present {
-        value(to, 1);
-        value(to, s.id.raw as u64);
-    } else {
-        value(to, 0);
-    }
-}
-
+// Of each 0, or 1 and the id.
 pub fn slots<P: Print>(to: &P, four: [Slot; 4]) {
-    slot(to, four[0]);
-    slot(to, four[1]);
-    slot(to, four[2]);
-    slot(to, four[3]);
+    for s in &four {
+        let _ = if s.present {
+            print!(to; " 1 {}", s.id.raw)
+        } else {
+            print!(to; " 0")
+        };
+    }
 }
 
 // Authority, full, state.
 pub fn counts<P: Print>(to: &P, r: Refusals) {
-    value(to, r.authority as u64);
-    value(to, r.full as u64);
-    value(to, r.state as u64);
+    let _ = print!(to; " {} {} {}", r.authority, r.full, r.state);
 }

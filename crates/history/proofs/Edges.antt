@@ -49,7 +49,7 @@ agree_by (e ∷ es) h =
 
 -- ---- over the table it is computed
 computed : all_agree edges ≡ true
-unfolding all_agree same class_values irq_mints class_of from_slot get_of seed_of next_generation mint_with mint_of create_of words.read_word words.or_vacant indices.every binds.bind_of binds.bind_slots binds.in_order binds.chosen binds.choice_from words.slots_of places.found places.lowest_free places.lowest picks.pick
+unfolding all_agree same class_values irq_mints class_of from_slot get_of seed_of next_generation mint_with mint_of create_of words.read_word words.or_vacant indices.every binds.bind_of binds.bind_slots binds.taken binds.with_place binds.bound binds.choice_from words.slots_of places.found places.lowest_free places.lowest picks.pick
 computed = refl
 
 pub edges_agree : EdgesAgree

@@ -1,5 +1,6 @@
 -- Runs in which a task is parked and each call that can end its wait ends it, computed: the premises of the theorem of waits are met, and
 -- what it says of them is what the rules answer. Assumes nothing.
+use Rattle.std.specs.Prelude.{Err, None, Ok}
 use mathlib.Core.Path.{◌≡◌, refl}
 use mathlib.Core.Bool.{Bool, true, false}
 use mathlib.Core.List.{List, [], ◌∷◌}
@@ -25,11 +26,7 @@ use Rattle.ipc_rules.specs.Views.{held_by, held_in}
 use Rattle.ipc_rules.specs.declared.state.Payload.{Payload}
 use Rattle.ipc_rules.specs.declared.state.TaskId.{TaskId}
 use Rattle.ipc_rules.specs.declared.state.Waiter.{Waiter}
-use Rattle.ipc_rules.specs.declared.answers.SendAnswer as send
-use Rattle.ipc_rules.specs.declared.answers.ParkAnswer.TheVariants.{Parked}
-use Rattle.ipc_rules.specs.declared.answers.ReleaseAnswer.TheVariants.{Released}
-use Rattle.ipc_rules.specs.declared.answers.RevokeAnswer.TheVariants.{Revoked}
-use Rattle.ipc_rules.specs.declared.answers.ClearAnswer.TheVariants.{Cleared}
+use Rattle.ipc_rules.specs.declared.answers.SendError.TheVariants as send
 use Rattle.history.specs.Calls as call
 use Rattle.history.specs.Calls.{Call, Answer, releasing, answer, after}
 use Rattle.history.specs.World.{World, but, if_created, on_creation, step, run, start, fresh}
@@ -95,26 +92,26 @@ abbrev ending : World → Call → Bool
 ending w c = ends w 1 0 task₁ c
 
 abbrev naming : List Waiter → Answer
-naming ws = call.released Released (four_of ws)
+naming ws = call.released (Ok tt) (four_of ws)
 
 record Computed : Type 0 where
   -- the park is answered Parked, and calls may follow that end no wait
-  pub parks : says (before true once) (call.park receiver₁ task₁) ≡ call.parked Parked
+  pub parks : says (before true once) (call.park receiver₁ task₁) ≡ call.parked (Ok None)
   pub quiet :
       Quiet (parked true once) 1 0 task₁
       (call.park receiver₁ task₁ ∷ call.park receiver₁ task₂ ∷ call.receive receiver₁ ∷ call.queued receiver₁ ∷ call.clear task₂ ∷ call.register once ∷ releasing (holding sender₁ ∷ []) ∷ [])
   -- a send that is accepted, one by the receive id and one of a row from 54 up, which are refused
   pub send_ends : ending (parked true once) (call.send sender₁ hello 5) ≡ true
-  pub send_names : says (parked true once) (call.send sender₁ hello 5) ≡ call.sent (send.TheVariants.Sent (waiting task₁))
+  pub send_names : says (parked true once) (call.send sender₁ hello 5) ≡ call.sent (Ok (waiting task₁))
   pub refused_ends : ending (parked true once) (call.send receiver₁ hello 5) ≡ false
-  pub refused_names : says (parked true once) (call.send receiver₁ hello 5) ≡ call.sent send.TheVariants.BadCap
+  pub refused_names : says (parked true once) (call.send receiver₁ hello 5) ≡ call.sent (Err send.BadCap)
   pub no_row_ends : ending (parked true once) (call.send sender₁ hello 54) ≡ false
-  pub no_row_names : says (parked true once) (call.send receiver₁ hello 54) ≡ call.sent send.TheVariants.BadRow
+  pub no_row_names : says (parked true once) (call.send receiver₁ hello 54) ≡ call.sent (Err send.BadRow)
   -- a revocation by either id
   pub revocation_ends : ending (parked true once) (call.revoke sender₁) ≡ true
-  pub revocation_names : says (parked true once) (call.revoke sender₁) ≡ call.revoked (Revoked (waiting task₁))
+  pub revocation_names : says (parked true once) (call.revoke sender₁) ≡ call.revoked (Ok (waiting task₁))
   pub either_id_ends : ending (parked true once) (call.revoke receiver₁) ≡ true
-  pub either_id_names : says (parked true once) (call.revoke receiver₁) ≡ call.revoked (Revoked (waiting task₁))
+  pub either_id_names : says (parked true once) (call.revoke receiver₁) ≡ call.revoked (Ok (waiting task₁))
   -- a release of the last hold, of one hold in two, of two in two, and of the last hold where the channel is not ephemeral
   pub release_ends : ending (parked true once) (releasing (vacant_slot ∷ holding sender₁ ∷ [])) ≡ true
   pub release_names : says (parked true once) (releasing (vacant_slot ∷ holding sender₁ ∷ [])) ≡ naming (waiting task₁ ∷ [])
@@ -126,7 +123,7 @@ record Computed : Type 0 where
   pub lasting_names : says (parked false once) (releasing (holding sender₁ ∷ [])) ≡ naming []
   -- a clearing
   pub clearing_ends : ending (parked true once) (call.clear task₁) ≡ true
-  pub clearing_counts : says (parked true once) (call.clear task₁) ≡ call.cleared (Cleared 1)
+  pub clearing_counts : says (parked true once) (call.clear task₁) ≡ call.cleared (Ok 1)
   -- waiters in list order: the second channel's slot stands first, so that the first channel's waiter has the second turn
   pub order_ends : ending both (releasing (vacant_slot ∷ holding sender₂ ∷ holding sender₁ ∷ [])) ≡ true
   pub order_names : says both (releasing (vacant_slot ∷ holding sender₂ ∷ holding sender₁ ∷ [])) ≡ naming (waiting task₂ ∷ waiting task₁ ∷ [])
@@ -136,7 +133,7 @@ record Computed : Type 0 where
   pub alone_turn : turn_of first.table 0 [] (vacant_slot ∷ holding sender₂ ∷ holding sender₁ ∷ vacant_slot ∷ []) ≡ 0
   -- an accepted send on the other channel is none on this one
   pub other_ends : ending both (call.send sender₂ hello 5) ≡ false
-  pub other_names : says both (call.send sender₂ hello 5) ≡ call.sent (send.TheVariants.Sent (waiting task₂))
+  pub other_names : says both (call.send sender₂ hello 5) ≡ call.sent (Ok (waiting task₂))
 
 computed : Computed
 unfolding answer after step run on_creation if_created but create_of send_of recv_of park_of register_of registered_all registered release_of released_all released revoke_of killed wiped clear_of without_waiter opening_of open_of open_any hold_of any_right_of opened pick found lowest lowest_free every count slots_of or_vacant read_word next_generation raised held_by held_in leads ends takes_last waits_ended turn_of attempt_of told

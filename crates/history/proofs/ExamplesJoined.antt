@@ -1,5 +1,6 @@
 -- That joined steps are not for nothing: a task waits on a channel that one row holds, and the spawn of that row names it, though the row
 -- then holds the same id again; it parks anew, and the leave of the row names it. Assumes nothing.
+use Rattle.std.specs.Prelude.{None, Ok}
 use mathlib.Core.Path.{◌≡◌, refl}
 use mathlib.Core.Bool.{true}
 use mathlib.Core.List.{List, [], ◌∷◌}
@@ -22,10 +23,6 @@ use Rattle.ipc_rules.specs.Opening as openings
 use Rattle.ipc_rules.specs.Counts as raises
 use Rattle.ipc_rules.specs.declared.state.TaskId.{TaskId}
 use Rattle.ipc_rules.specs.declared.state.Waiter.{Waiter}
-use Rattle.ipc_rules.specs.declared.answers.CreateAnswer.TheVariants.{Created}
-use Rattle.ipc_rules.specs.declared.answers.ParkAnswer.TheVariants.{Parked}
-use Rattle.ipc_rules.specs.declared.answers.RegisterAnswer.TheVariants.{Registered}
-use Rattle.ipc_rules.specs.declared.answers.ReleaseAnswer.TheVariants.{Released}
 use Rattle.joined.specs.Steps as joins
 use Rattle.history.specs.Calls.{Call, create, park, register, release, created, parked, registered, released, answer, after}
 use Rattle.history.specs.World.{if_created, on_creation, step, answers, start}
@@ -70,7 +67,7 @@ named = record { present = true; task = task } ∷ nobody ∷ nobody ∷ nobody 
 
 pub joined_answers :
     answers (start (sizes_of 1 2 1)) calls
-    ≡ (created (Created (record { send = id_of 0 1; recv = id_of 1 1 })) ∷ released Released nobodies ∷ registered Registered ∷ parked Parked
-    ∷ released Released named ∷ registered Registered ∷ parked Parked ∷ released Released named ∷ [])
+    ≡ (created (Ok (record { send = id_of 0 1; recv = id_of 1 1 })) ∷ released (Ok tt) nobodies ∷ registered (Ok tt) ∷ parked (Ok None)
+    ∷ released (Ok tt) named ∷ registered (Ok tt) ∷ parked (Ok None) ∷ released (Ok tt) named ∷ [])
 unfolding answers step answer after on_creation if_created create_of park_of holds.register_of holds.registered_all holds.registered holds.release_of holds.released_all holds.released words.read_word words.or_vacant words.slots_of everys.every places.found places.lowest_free places.lowest picks.pick openings.opened openings.opening_of openings.open_of openings.hold_of generations.next_generation raises.raised openings.attempt_of openings.told
 joined_answers = refl

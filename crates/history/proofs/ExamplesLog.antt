@@ -1,4 +1,5 @@
 -- That joined steps and operations are calls, by a log and a sequence that are computed; and line 7 of the log. Assumes nothing.
+use Rattle.std.specs.Prelude.{Err, Ok, Some}
 use mathlib.Core.Path.{◌≡◌, refl}
 use mathlib.Core.Bool.{true}
 use mathlib.Core.List.{List, [], ◌∷◌}
@@ -20,12 +21,8 @@ use Rattle.ipc_rules.specs.Revoke as revocations
 use Rattle.ipc_rules.specs.declared.state.Message.{Message}
 use Rattle.ipc_rules.specs.declared.state.Payload.{Payload}
 use Rattle.ipc_rules.specs.declared.state.TaskId.{TaskId}
-use Rattle.ipc_rules.specs.declared.answers.CreateAnswer.TheVariants.{Created}
-use Rattle.ipc_rules.specs.declared.answers.SendAnswer.TheVariants.{Sent}
-use Rattle.ipc_rules.specs.declared.answers.RecvAnswer.TheVariants.{BadCap}
-use Rattle.ipc_rules.specs.declared.answers.ParkAnswer.TheVariants.{Given, Cancelled}
-use Rattle.ipc_rules.specs.declared.answers.RevokeAnswer.TheVariants.{Revoked}
-use Rattle.ipc_rules.specs.declared.answers.RefusalsAnswer.TheVariants.{Counts}
+use Rattle.ipc_rules.specs.declared.answers.RecvError.TheVariants.{BadCap}
+use Rattle.ipc_rules.specs.declared.answers.ParkError.TheVariants.{Cancelled}
 use Rattle.logread.specs.Little as numbers
 use Rattle.logread.specs.Operands as operands
 use Rattle.logread.specs.Read as reads
@@ -89,8 +86,8 @@ sample_calls = refl
 -- and their answers are the lines that the document prints
 pub sample_answers :
     answers (start (sizes_of 2 4 1)) calls
-    ≡ (created (Created (record { send = id_of 0 1; recv = id_of 1 1 })) ∷ parked Cancelled ∷ sent (Sent nobody) ∷ parked (Given m) ∷ revoked (Revoked nobody) ∷ received BadCap
-    ∷ counted (Counts (record { authority = 1; full = 0; state = 0 })) ∷ [])
+    ≡ (created (Ok (record { send = id_of 0 1; recv = id_of 1 1 })) ∷ parked (Err Cancelled) ∷ sent (Ok nobody) ∷ parked (Ok (Some m)) ∷ revoked (Ok nobody) ∷ received (Err BadCap)
+    ∷ counted (Ok (record { authority = 1; full = 0; state = 0 })) ∷ [])
 unfolding answers step answer after on_creation if_created create_of send_of recv_of park_of queued_of revocations.revoke_of revocations.killed revocations.wiped places.found places.lowest_free places.lowest picks.pick openings.opened openings.opening_of openings.open_of openings.either_of openings.open_either openings.any_right_of openings.open_any generations.next_generation raises.raised openings.attempt_of openings.told
 sample_answers = refl
 

@@ -1,4 +1,5 @@
 -- Messages go in where there is room, and the oldest comes out, to each id that opens the channel. Assumes nothing.
+use Rattle.std.specs.Prelude.{Option, Result}
 use mathlib.Core.Path.{◌≡◌, refl, sym, ap, ◌∙◌}
 use mathlib.Core.Bool.{true}
 use mathlib.Core.List.{List, [], ◌∷◌}
@@ -17,8 +18,6 @@ use Rattle.ipc_rules.specs.declared.state.Message.{Message}
 use Rattle.ipc_rules.specs.declared.state.Payload.{Payload}
 use Rattle.ipc_rules.specs.declared.state.TaskId.{TaskId}
 use Rattle.ipc_rules.specs.declared.state.Table.{Table}
-use Rattle.ipc_rules.specs.declared.answers.Receiving.{Receiving}
-use Rattle.ipc_rules.specs.declared.answers.Parking.{Parking}
 use Rattle.ipc_rules.specs.declared.opening.Opening.TheVariants.{Opens, Shut}
 use Rattle.ipc_rules.proofs.Openings.{opens_live}
 use Rattle.ipc_rules.proofs.AfterSend as after-send
@@ -31,6 +30,9 @@ use Rattle.history.specs.Traffic.{if_sent, by_receive, by_park, accepted, given}
 use Rattle.history.specs.Messages.{GoesIn, ComesOut, EachSent, SomeGives, EachReceived, EachGiven}
 use Rattle.history.proofs.Tidy.{Tidy, reached_tidy}
 use Rattle.history.proofs.Leading.{leads_to, leads_own}
+use Rattle.ipc_rules.specs.declared.answers.RecvError.{RecvError}
+use Rattle.shown.specs.declared.Answered.{Answered}
+use Rattle.ipc_rules.specs.declared.answers.ParkError.{ParkError}
 
 module _ (w : World) (τ : Tidy w) (n k : ℕ) (h : LivesIn w n k) where
   abbrev t : Table
@@ -64,13 +66,13 @@ module _ (w : World) (τ : Tidy w) (n k : ℕ) (h : LivesIn w n k) where
     shut : {A : Type 0} → opening_of t c receive_right ≡ Shut → A
     shut o = let o' = opens_here c receive_right e in let z : ◌≡◌ {A = ℕ} 0 1 = cc in absurd (omega arith)
 
-    received : {r : Receiving} → after-recv.RecvWays t c r → by_receive r.answer ≡ m ∷ []
+    received : {r : Answered (Result Message RecvError) Table} → after-recv.RecvWays t c r → by_receive r.answer ≡ m ∷ []
     unfolding by_receive
     received (after-recv.bad_cap o _) = shut o
     received (after-recv.empty j o z _) = some q (rw (same o) at z)
     received (after-recv.received j x o a g) = rw a (ap (λ (y : Message). y ∷ []) (first q (rw (same o) at g.queue)))
 
-    parked : (task : TaskId) {r : Parking} → after-park.ParkWays t c task r → by_park r.answer ≡ m ∷ []
+    parked : (task : TaskId) {r : Answered (Result (Option Message) ParkError) Table} → after-park.ParkWays t c task r → by_park r.answer ≡ m ∷ []
     unfolding by_park
     parked task (after-park.bad_cap o _) = shut o
     parked task (after-park.given j x o a g) = rw a (ap (λ (y : Message). y ∷ []) (first q (rw (same o) at g.queue)))

@@ -1,4 +1,5 @@
 -- What a call gives: one message or none, and where it gives one, nothing else is done to the channel. Assumes nothing.
+use Rattle.std.specs.Prelude.{Err, None, Ok, Option, Result, Some}
 use mathlib.Core.Path.{◌≡◌, refl, ap, ◌∙◌}
 use mathlib.Core.Bool.{false}
 use mathlib.Core.List.{List, [], ◌∷◌}
@@ -10,33 +11,35 @@ use Rattle.laws.proofs.Bools.{below?}
 use Rattle.laws.proofs.Cases.{all_pick}
 use Rattle.cap.specs.Rights.{receive_right}
 use Rattle.ipc_rules.specs.declared.state.Message.{Message}
-use Rattle.ipc_rules.specs.declared.answers.RecvAnswer as recv
-use Rattle.ipc_rules.specs.declared.answers.ParkAnswer as park
+use Rattle.ipc_rules.specs.declared.answers.RecvError.TheVariants as recv
+use Rattle.ipc_rules.specs.declared.answers.ParkError.TheVariants as park
 use Rattle.history.specs.Calls.{Call, create, send, receive, park, queued, revoke, register, release, holders, clear, note_authority, note_state, counts}
 use Rattle.history.specs.World.{World, step, run}
 use Rattle.history.specs.Channels.{on}
 use Rattle.history.specs.Traffic.{by_receive, by_park, accepted, given, revokes, all_given}
 use Rattle.history.specs.Messages.{OneOrNone, Giving, EachHasItsCall}
+use Rattle.ipc_rules.specs.declared.answers.RecvError.{RecvError}
+use Rattle.ipc_rules.specs.declared.answers.ParkError.{ParkError}
 
 -- ---- a call gives one message or none
 abbrev Few : List Message → Type 0
 Few l = length l ≤ 1
 
-few_received : (a : recv.RecvAnswer) → Few (by_receive a)
+few_received : (a : Result Message RecvError) → Few (by_receive a)
 unfolding by_receive
-few_received (recv.TheVariants.Received m) = omega arith
-few_received recv.TheVariants.BadCap = omega arith
-few_received recv.TheVariants.Empty = omega arith
-few_received recv.TheVariants.BadTable = omega arith
+few_received (Ok m) = omega arith
+few_received (Err recv.BadCap) = omega arith
+few_received (Err recv.Empty) = omega arith
+few_received (Err recv.BadTable) = omega arith
 
-few_parked : (a : park.ParkAnswer) → Few (by_park a)
+few_parked : (a : Result (Option Message) ParkError) → Few (by_park a)
 unfolding by_park
-few_parked (park.TheVariants.Given m) = omega arith
-few_parked park.TheVariants.Parked = omega arith
-few_parked park.TheVariants.BadCap = omega arith
-few_parked park.TheVariants.Busy = omega arith
-few_parked park.TheVariants.Cancelled = omega arith
-few_parked park.TheVariants.BadTable = omega arith
+few_parked (Ok (Some m)) = omega arith
+few_parked (Ok None) = omega arith
+few_parked (Err park.BadCap) = omega arith
+few_parked (Err park.Busy) = omega arith
+few_parked (Err park.Cancelled) = omega arith
+few_parked (Err park.BadTable) = omega arith
 
 pub one_or_none : OneOrNone
 unfolding given

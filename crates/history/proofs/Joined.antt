@@ -1,4 +1,5 @@
 -- The joined steps are runs of calls: `joined_runs` and `joined_tell`. Assumes nothing.
+use Rattle.std.specs.Prelude.{Err, Ok, Result, ⊤}
 use mathlib.Core.Path.{◌≡◌, refl, sym, ap, ◌∙◌}
 use mathlib.Core.Bool.{Bool, true, false}
 use mathlib.Core.List.{List, [], ◌∷◌, map}
@@ -14,8 +15,6 @@ use Rattle.cap.specs.Slot.{vacant_slot, holding}
 use Rattle.cap.specs.Word.{read_word, word_of, is_word, or_vacant, slot_at, words_read, slots_of}
 use Rattle.cap.specs.declared.CapId.{CapId}
 use Rattle.cap.specs.declared.slot.Slot.{Slot}
-use Rattle.cap.specs.declared.word.WordAnswer.{WordAnswer}
-use Rattle.cap.specs.declared.word.WordAnswer.TheVariants.{Reads}
 use Rattle.cap.proofs.Words.{holding_back, vacant_back, reads_test}
 use Rattle.capslots.specs.Rows.{row_of, drain_of}
 use Rattle.capslots.specs.Table.{row_at, fresh_table, Shape}
@@ -25,17 +24,15 @@ use Rattle.capslots.proofs.Ways.{drain_ways}
 use Rattle.ipc_rules.specs.Holds.{registered, registered_all, register_of, release_of}
 use Rattle.ipc_rules.specs.Opening.{hold_of}
 use Rattle.ipc_rules.specs.declared.state.Table.{Table}
-use Rattle.ipc_rules.specs.declared.answers.RegisterAnswer.TheVariants.{Registered}
-use Rattle.ipc_rules.specs.declared.answers.ReleaseAnswer.TheVariants.{Released}
 use Rattle.ipc_rules.proofs.Openings.{all_opened, hold_opens}
 use Rattle.joined.specs.Answers.{spawn_number, leave_number, give_number}
 use Rattle.joined.specs.Steps.{spawn_of, leave_of, give_of}
 use Rattle.joined.specs.declared.answers.Spawning.{Spawning}
-use Rattle.joined.specs.declared.answers.SpawnAnswer as spawn
+use Rattle.joined.specs.declared.answers.SpawnError.TheVariants as spawn
 use Rattle.joined.specs.declared.answers.Leaving.{Leaving}
-use Rattle.joined.specs.declared.answers.LeaveAnswer as leave
+use Rattle.joined.specs.declared.answers.LeaveError.TheVariants as leave
 use Rattle.joined.specs.declared.answers.Giving.{Giving}
-use Rattle.joined.specs.declared.answers.GiveAnswer as give
+use Rattle.joined.specs.declared.answers.GiveError.TheVariants as give
 use Rattle.joined.proofs.Register.{list_registered, word_registered, seeded_row}
 use Rattle.joined.proofs.Ways.{spawn_ways, leave_ways, give_ways}
 use Rattle.history.specs.Calls as calls
@@ -45,6 +42,10 @@ use Rattle.history.specs.Lent.{lending}
 use Rattle.history.specs.Joined.{if_accepted, registering, spawn_calls, leave_calls, give_calls, SpawnTold, JoinedRuns, JoinedTell}
 use Rattle.history.proofs.Kept.{step_table}
 use Rattle.history.proofs.Tidy.{Tidy, reached_tidy}
+use Rattle.cap.specs.declared.word.WordError.{WordError}
+use Rattle.joined.specs.declared.answers.SpawnError.{SpawnError}
+use Rattle.joined.specs.declared.answers.LeaveError.{LeaveError}
+use Rattle.joined.specs.declared.answers.GiveError.{GiveError}
 
 -- ---- no call, one, and two
 pub not_accepted : (w : World) (n : ℕ) (cs : List Call) → (n ≡ 0 → ⊥) → (run w (if_accepted n cs)).table ≡ w.table
@@ -68,21 +69,21 @@ unfolding if_accepted pick
 accepted w c = one_call w c
 
 -- ---- what is refused has a number
-spawn_number_lem : (a : spawn.SpawnAnswer) → (a ≡ spawn.TheVariants.Spawned → ⊥) → spawn_number a ≡ 0 → ⊥
-spawn_number_lem spawn.TheVariants.Spawned n e = n refl
-spawn_number_lem spawn.TheVariants.BadWord n e = omega arith
-spawn_number_lem spawn.TheVariants.BadRow n e = omega arith
-spawn_number_lem spawn.TheVariants.BadTable n e = omega arith
+spawn_number_lem : (a : Result ⊤ SpawnError) → (a ≡ Ok tt → ⊥) → spawn_number a ≡ 0 → ⊥
+spawn_number_lem (Ok tt) n e = n refl
+spawn_number_lem (Err spawn.BadWord) n e = omega arith
+spawn_number_lem (Err spawn.BadRow) n e = omega arith
+spawn_number_lem (Err spawn.BadTable) n e = omega arith
 
-leave_number_lem : (a : leave.LeaveAnswer) → (a ≡ leave.TheVariants.Left → ⊥) → leave_number a ≡ 0 → ⊥
-leave_number_lem leave.TheVariants.Left n e = n refl
-leave_number_lem leave.TheVariants.BadRow n e = omega arith
-leave_number_lem leave.TheVariants.BadTable n e = omega arith
+leave_number_lem : (a : Result ⊤ LeaveError) → (a ≡ Ok tt → ⊥) → leave_number a ≡ 0 → ⊥
+leave_number_lem (Ok tt) n e = n refl
+leave_number_lem (Err leave.BadRow) n e = omega arith
+leave_number_lem (Err leave.BadTable) n e = omega arith
 
-give_number_lem : (a : give.GiveAnswer) → (a ≡ give.TheVariants.Given → ⊥) → give_number a ≡ 0 → ⊥
-give_number_lem give.TheVariants.Given n e = n refl
-give_number_lem give.TheVariants.BadSlot n e = omega arith
-give_number_lem give.TheVariants.BadTable n e = omega arith
+give_number_lem : (a : Result ⊤ GiveError) → (a ≡ Ok tt → ⊥) → give_number a ≡ 0 → ⊥
+give_number_lem (Ok tt) n e = n refl
+give_number_lem (Err give.BadSlot) n e = omega arith
+give_number_lem (Err give.BadTable) n e = omega arith
 
 -- ---- a row of four is its four slots
 four : (l : List Slot) → length l ≡ 4 → four_slots (get_or l 0 vacant_slot) (get_or l 1 vacant_slot) (get_or l 2 vacant_slot) (get_or l 3 vacant_slot) ≡ l
@@ -100,14 +101,14 @@ pub row_four : (rows : Rows) (r : ℕ) → Shape rows → let l = (drain_of rows
 row_four rows r shape = four (drain_of rows r).slots (drained_four rows r shape)
 
 -- ---- the slots that a list gives a row, as words, read back as they are
-slot_back : (w : ℕ) → let s = or_vacant (read_word w) in read_word (word_of s) ≡ Reads s
+slot_back : (w : ℕ) → let s = or_vacant (read_word w) in read_word (word_of s) ≡ Ok s
 unfolding read_word or_vacant
 slot_back w =
     all_pick Back (eqb w 0) _ _ (λ _. vacant_back) (λ _.
     all_pick Back (eqb (w / 4294967296) 1) _ _ (λ _. holding_back (record { raw = w % 4294967296 }) (omega arith)) (λ _. vacant_back))
   where
-    Back : WordAnswer → Type 0
-    Back a = read_word (word_of (or_vacant a)) ≡ Reads (or_vacant a)
+    Back : Result Slot WordError → Type 0
+    Back a = read_word (word_of (or_vacant a)) ≡ Ok (or_vacant a)
 
 module _ (words : List ℕ) where
   row_reads : words_read (map word_of (row_of words).slots) ≡ true
@@ -186,29 +187,29 @@ pub id_registered : (w : World) → Reached w → (c : CapId) → after w.table 
 id_registered w reached c = id_held w fresh_table c (reached_tidy reached) (ltb c.raw 4294967296) refl
 
 -- ---- what they answer
-register_reads : (t : Table) (words : List ℕ) → words_read words ≡ true → answer t (register words) ≡ calls.registered Registered
+register_reads : (t : Table) (words : List ℕ) → words_read words ≡ true → answer t (register words) ≡ calls.registered (Ok tt)
 unfolding answer register_of pick
 register_reads t words h = rw h
 
 module _ (t : Table) (rows : Rows) where
-  row_wakes : (r : ℕ) → Shape rows → answer t (releasing (drain_of rows r).slots) ≡ calls.released Released (release_of t (drain_of rows r).slots).waiters
+  row_wakes : (r : ℕ) → Shape rows → answer t (releasing (drain_of rows r).slots) ≡ calls.released (Ok tt) (release_of t (drain_of rows r).slots).waiters
   unfolding answer release_of
-  row_wakes r shape = ap (λ (l : List Slot). calls.released Released (release_of t l).waiters) (row_four rows r shape)
+  row_wakes r shape = ap (λ (l : List Slot). calls.released (Ok tt) (release_of t l).waiters) (row_four rows r shape)
 
-  spawn_told : (r : ℕ) (words : List ℕ) → Shape rows → (spawn_of t rows r words).answer ≡ spawn.TheVariants.Spawned → SpawnTold t rows r words
+  spawn_told : (r : ℕ) (words : List ℕ) → Shape rows → (spawn_of t rows r words).answer ≡ Ok tt → SpawnTold t rows r words
   spawn_told r words shape e =
       record {
         first =
-            spawn_ways t rows (λ (x : Spawning). x.answer ≡ spawn.TheVariants.Spawned → answer t (releasing (drain_of rows r).slots) ≡ calls.released Released x.waiters) r words
+            spawn_ways t rows (λ (x : Spawning). x.answer ≡ Ok tt → answer t (releasing (drain_of rows r).slots) ≡ calls.released (Ok tt) x.waiters) r words
             (λ _ n q. absurd (n q)) (λ _ _ _. row_wakes r shape) e;
         then = λ u.
-            spawn_ways t rows (λ (x : Spawning). x.answer ≡ spawn.TheVariants.Spawned → answer u (lending (row_at x.rows r).slots) ≡ calls.registered Registered) r words
+            spawn_ways t rows (λ (x : Spawning). x.answer ≡ Ok tt → answer u (lending (row_at x.rows r).slots) ≡ calls.registered (Ok tt)) r words
             (λ _ n q. absurd (n q)) (λ h l _. rw (seeded_row rows r words shape h l) (register_reads u (map word_of (row_of words).slots) (row_reads words))) e;
       }
 
-  leave_told : (r : ℕ) → Shape rows → (leave_of t rows r).answer ≡ leave.TheVariants.Left → answer t (releasing (drain_of rows r).slots) ≡ calls.released Released (leave_of t rows r).waiters
+  leave_told : (r : ℕ) → Shape rows → (leave_of t rows r).answer ≡ Ok tt → answer t (releasing (drain_of rows r).slots) ≡ calls.released (Ok tt) (leave_of t rows r).waiters
   leave_told r shape =
-      leave_ways t rows (λ (x : Leaving). x.answer ≡ leave.TheVariants.Left → answer t (releasing (drain_of rows r).slots) ≡ calls.released Released x.waiters) r
+      leave_ways t rows (λ (x : Leaving). x.answer ≡ Ok tt → answer t (releasing (drain_of rows r).slots) ≡ calls.released (Ok tt) x.waiters) r
       (λ _ n e. absurd (n e)) (λ _ _. row_wakes r shape)
 
 pub joined_tell : JoinedTell

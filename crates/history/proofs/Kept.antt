@@ -1,12 +1,12 @@
 -- Every table of a run is sound, so that no call of a run is refused with 27. Assumes nothing.
+use Rattle.std.specs.Prelude.{Err, Ok, Result, ⊤}
 use mathlib.Core.Path.{◌≡◌, refl}
 use mathlib.Core.List.{List, [], ◌∷◌, ◌++◌}
 use Rattle.laws.proofs.Cases.{all_pick}
 use Rattle.ipc_rules.specs.Sound.{Sound}
 use Rattle.ipc_rules.specs.Holds.{register_of, release_of}
 use Rattle.ipc_rules.specs.declared.state.Table.{Table}
-use Rattle.ipc_rules.specs.declared.answers.CreateAnswer.TheVariants.{Created, NoMailbox, NoEndpoint, BadTable}
-use Rattle.ipc_rules.specs.declared.answers.Registering.{Registering}
+use Rattle.ipc_rules.specs.declared.answers.CreateError.TheVariants.{NoMailbox, NoEndpoint, BadTable}
 use Rattle.ipc_rules.proofs.Fresh.{in_range_of, fresh_sound}
 use Rattle.ipc_rules.proofs.Keeps.{counts_kept}
 use Rattle.ipc_rules.proofs.KeepsCalls.{send_kept, recv_kept, park_kept, registered_all_kept, released_all_kept}
@@ -15,14 +15,16 @@ use Rattle.ipc_rules.proofs.KeepsRevoke.{revoke_kept}
 use Rattle.ipc_rules.proofs.KeepsClear.{clear_kept}
 use Rattle.history.specs.Calls.{Call, create, send, receive, park, queued, revoke, register, release, holders, clear, note_authority, note_state, counts, Answer, created, sent, received, parked, measured, revoked, registered, released, held, cleared, noted, counted, answer, after}
 use Rattle.history.specs.World.{World, if_created, on_creation, settled, born, step, run, Reached, fresh, then}
+use Rattle.ipc_rules.specs.declared.answers.RegisterError.{RegisterError}
+use Rattle.shown.specs.declared.Answered.{Answered}
 
 -- ---- the table of a step is the call's
 answered_table : (w : World) (u : Table) (a : Answer) → (on_creation a (settled w u) (λ ids. born w u ids.send)).table ≡ u
 unfolding on_creation if_created
-answered_table w u (created (Created _)) = refl
-answered_table w u (created NoMailbox) = refl
-answered_table w u (created NoEndpoint) = refl
-answered_table w u (created BadTable) = refl
+answered_table w u (created (Ok _)) = refl
+answered_table w u (created (Err NoMailbox)) = refl
+answered_table w u (created (Err NoEndpoint)) = refl
+answered_table w u (created (Err BadTable)) = refl
 answered_table w u (sent _) = refl
 answered_table w u (received _) = refl
 answered_table w u (parked _) = refl
@@ -48,7 +50,7 @@ after_sound t (receive c) s = recv_kept t c s
 after_sound t (park c task) s = park_kept t c task s
 after_sound t (queued c) s = s
 after_sound t (revoke c) s = revoke_kept t c s
-after_sound t (register words) s = all_pick (λ (r : Registering). Sound r.table) _ _ _ (λ _. registered_all_kept t _ s) (λ _. s)
+after_sound t (register words) s = all_pick (λ (r : Answered (Result ⊤ RegisterError) Table). Sound r.table) _ _ _ (λ _. registered_all_kept t _ s) (λ _. s)
 after_sound t (release x y z v) s = released_all_kept t _ s
 after_sound t (holders c) s = s
 after_sound t (clear task) s = clear_kept t task s

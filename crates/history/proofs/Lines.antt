@@ -1,4 +1,5 @@
 -- The line of an operation shows what its calls answer, `operations_tell`. Assumes nothing.
+use Rattle.std.specs.Prelude.{Err, Ok, Result, ⊤}
 use mathlib.Core.Path.{◌≡◌, refl, sym, ap, subst, ◌∙◌}
 use mathlib.Core.List.Memᴰ
 use mathlib.Core.List.{List, [], ◌∷◌, ◌++◌, append-nil}
@@ -17,11 +18,11 @@ use Rattle.ipc_rules.specs.Observe.{queued_of}
 use Rattle.ipc_rules.specs.Why.{why_of}
 use Rattle.ipc_rules.specs.declared.state.Table.{Table}
 use Rattle.ipc_rules.specs.declared.opening.Asked.TheVariants.{Send, Receive, Either}
-use Rattle.joined.specs.Answers.{spawn_number, spawn_values, leave_number, leave_values, give_number}
+use Rattle.joined.specs.Answers.{spawn_number, spawn_values, leave_number, leave_values, give_number, give_values}
 use Rattle.joined.specs.Steps.{spawn_of, leave_of, give_of}
-use Rattle.joined.specs.declared.answers.SpawnAnswer as spawn
-use Rattle.joined.specs.declared.answers.LeaveAnswer as leave
-use Rattle.joined.specs.declared.answers.GiveAnswer as give
+use Rattle.joined.specs.declared.answers.SpawnError.TheVariants as spawn
+use Rattle.joined.specs.declared.answers.LeaveError.TheVariants as leave
+use Rattle.joined.specs.declared.answers.GiveError.TheVariants as give
 use Rattle.logread.specs.Little.{byte_at}
 use Rattle.logread.specs.Lists.{list_words}
 use Rattle.logread.proofs.Numbers.{below}
@@ -41,6 +42,9 @@ use Rattle.history.specs.Lines.{all_reasons, reason_of, all_values, Tells, Opera
 use Rattle.history.proofs.Joined.{joined_tell}
 use Rattle.history.proofs.Bare.{send_bare, recv_bare, park_bare, queued_bare, reason_behind, nothing_behind}
 use Rattle.history.proofs.Along.{Along, end, ◌▸◌, along_all}
+use Rattle.joined.specs.declared.answers.SpawnError.{SpawnError}
+use Rattle.joined.specs.declared.answers.LeaveError.{LeaveError}
+use Rattle.joined.specs.declared.answers.GiveError.{GiveError}
 
 -- ---- two lines that agree, by their first number and by the rest
 pub same_head : {x y : ℕ} {l m : List ℕ} → x ∷ l ≡ y ∷ m → x ≡ y
@@ -122,32 +126,32 @@ module _ (log : List ℕ) (t : Tables) where
     abbrev told : JoinedTold t.channels t.rows
     told = joined_tell t.channels t.rows shape
 
-    spawn_tells : (a : spawn.SpawnAnswer) → (spawn_of t.channels t.rows (byte_at log 3) (list_words log 4)).answer ≡ a → Told [] (spawn_done log t) (spawn_calls t.channels t.rows (byte_at log 3) (list_words log 4))
+    spawn_tells : (a : Result ⊤ SpawnError) → (spawn_of t.channels t.rows (byte_at log 3) (list_words log 4)).answer ≡ a → Told [] (spawn_done log t) (spawn_calls t.channels t.rows (byte_at log 3) (list_words log 4))
     unfolding spawn_done spawn_calls
-    spawn_tells spawn.TheVariants.Spawned e =
+    spawn_tells (Ok tt) e =
         let x = told.spawn (byte_at log 3) (list_words log 4) e in
         made_two _ _ _ _ (ap spawn_number e) (ap spawn_number e ∙ ap number_of (sym x.first)) (λ u. ap spawn_number e ∙ ap number_of (sym (x.then u)))
         (ap (λ a. spawn_values a (spawn_of t.channels t.rows (byte_at log 3) (list_words log 4)).waiters) e ∙ ap values_of (sym x.first)) (λ u. ap values_of (x.then u))
-    spawn_tells spawn.TheVariants.BadWord e = unmade _ _ _ (λ z. omega (arith, ap spawn_number e))
-    spawn_tells spawn.TheVariants.BadRow e = unmade _ _ _ (λ z. omega (arith, ap spawn_number e))
-    spawn_tells spawn.TheVariants.BadTable e = unmade _ _ _ (λ z. omega (arith, ap spawn_number e))
+    spawn_tells (Err spawn.BadWord) e = unmade _ _ _ (λ z. omega (arith, ap spawn_number e))
+    spawn_tells (Err spawn.BadRow) e = unmade _ _ _ (λ z. omega (arith, ap spawn_number e))
+    spawn_tells (Err spawn.BadTable) e = unmade _ _ _ (λ z. omega (arith, ap spawn_number e))
 
-    leave_tells : (a : leave.LeaveAnswer) → (leave_of t.channels t.rows (byte_at log 3)).answer ≡ a → Told [] (leave_done log t) (leave_calls t.channels t.rows (byte_at log 3))
+    leave_tells : (a : Result ⊤ LeaveError) → (leave_of t.channels t.rows (byte_at log 3)).answer ≡ a → Told [] (leave_done log t) (leave_calls t.channels t.rows (byte_at log 3))
     unfolding leave_done leave_calls
-    leave_tells leave.TheVariants.Left e =
+    leave_tells (Ok tt) e =
         let x = told.leave (byte_at log 3) e in
         made _ _ _ (ap leave_number e) (ap leave_number e ∙ ap number_of (sym x))
         (ap (λ a. leave_values a (leave_of t.channels t.rows (byte_at log 3)).waiters) e ∙ ap values_of (sym x))
-    leave_tells leave.TheVariants.BadRow e = unmade _ _ _ (λ z. omega (arith, ap leave_number e))
-    leave_tells leave.TheVariants.BadTable e = unmade _ _ _ (λ z. omega (arith, ap leave_number e))
+    leave_tells (Err leave.BadRow) e = unmade _ _ _ (λ z. omega (arith, ap leave_number e))
+    leave_tells (Err leave.BadTable) e = unmade _ _ _ (λ z. omega (arith, ap leave_number e))
 
-    give_tells : (a : give.GiveAnswer) → (give_of t.channels t.rows (byte_at log 3) (byte_at log 4) (id_at log 5)).answer ≡ a → Told [] (give_done log t) (give_calls t.channels t.rows (byte_at log 3) (byte_at log 4) (id_at log 5))
+    give_tells : (a : Result ⊤ GiveError) → (give_of t.channels t.rows (byte_at log 3) (byte_at log 4) (id_at log 5)).answer ≡ a → Told [] (give_done log t) (give_calls t.channels t.rows (byte_at log 3) (byte_at log 4) (id_at log 5))
     unfolding give_done give_calls
-    give_tells give.TheVariants.Given e =
+    give_tells (Ok tt) e =
         let x = told.give (byte_at log 3) (byte_at log 4) (id_at log 5) (below log bytes 4 5) e in
-        made _ _ _ (ap give_number e) (ap give_number e ∙ ap number_of (sym x)) (ap values_of (sym x))
-    give_tells give.TheVariants.BadSlot e = unmade _ _ _ (λ z. omega (arith, ap give_number e))
-    give_tells give.TheVariants.BadTable e = unmade _ _ _ (λ z. omega (arith, ap give_number e))
+        made _ _ _ (ap give_number e) (ap give_number e ∙ ap number_of (sym x)) (ap give_values e ∙ ap values_of (sym x))
+    give_tells (Err give.BadSlot) e = unmade _ _ _ (λ z. omega (arith, ap give_number e))
+    give_tells (Err give.BadTable) e = unmade _ _ _ (λ z. omega (arith, ap give_number e))
 
     all_tell : Along ToldAt 0 (all_done log t) (all_calls log t)
     unfolding answer create_done send_done receive_done park_done queued_done revoke_done register_done release_done holders_done clear_done note_authority_done note_state_done counts_done

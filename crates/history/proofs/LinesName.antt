@@ -1,4 +1,5 @@
 -- Where a call of an operation ends a wait, the operation's line names the task, or it is a clearing of it. Assumes nothing.
+use Rattle.std.specs.Prelude.{Err, Ok, Result, ⊤}
 use mathlib.Core.Path.{◌≡◌, refl, sym, ap, subst, ◌∙◌}
 use mathlib.Core.Bool.{true, false}
 use mathlib.Core.List.{List, [], ◌∷◌, ◌++◌}
@@ -22,15 +23,13 @@ use Rattle.ipc_rules.specs.Why.{why_of}
 use Rattle.ipc_rules.specs.declared.state.TaskId.{TaskId}
 use Rattle.ipc_rules.specs.declared.state.Table.{Table}
 use Rattle.ipc_rules.specs.declared.opening.Asked.TheVariants.{Send}
-use Rattle.ipc_rules.specs.declared.answers.Registering.{Registering}
 use Rattle.ipc_rules.proofs.AfterRegister as registers
 use Rattle.joined.specs.Answers.{spawn_number, spawn_values, leave_number, leave_values}
 use Rattle.joined.specs.Steps.{spawn_of, leave_of}
 use Rattle.joined.specs.declared.answers.Spawning.{Spawning}
-use Rattle.joined.specs.declared.answers.SpawnAnswer as spawning
+use Rattle.joined.specs.declared.answers.SpawnError.TheVariants as spawning
 use Rattle.joined.specs.declared.answers.Leaving.{Leaving}
-use Rattle.joined.specs.declared.answers.LeaveAnswer.{LeaveAnswer}
-use Rattle.joined.specs.declared.answers.LeaveAnswer.TheVariants.{Left, BadRow, BadTable}
+use Rattle.joined.specs.declared.answers.LeaveError.TheVariants.{BadRow, BadTable}
 use Rattle.logread.specs.Little.{byte_at}
 use Rattle.logread.specs.Lists.{list_slots, list_words}
 use Rattle.operations.specs.Apply.{all_done, unknown_done, apply_of}
@@ -49,6 +48,10 @@ use Rattle.history.specs.Operations.{Operation, all_calls, calls_of, Logged, Fol
 use Rattle.history.specs.Lines.{line_in, NamesTask, send_line, revoke_line, release_line, spawn_line, leave_line, ClearsTask}
 use Rattle.history.proofs.Joined.{joined_tell, row_four}
 use Rattle.history.proofs.Along.{Along, end, ◌▸◌, along_all}
+use Rattle.ipc_rules.specs.declared.answers.RegisterError.{RegisterError}
+use Rattle.shown.specs.declared.Answered.{Answered}
+use Rattle.joined.specs.declared.answers.SpawnError.{SpawnError}
+use Rattle.joined.specs.declared.answers.LeaveError.{LeaveError}
 
 -- ---- the first of one call
 record Sole (c : Call) (before : List Call) (call : Call) (behind : List Call) : Type 0 where
@@ -76,21 +79,21 @@ no_first : {A : Type 0} (call : Call) (before behind : List Call) → [] ≡ bef
 no_first call before behind e = let l : 0 ≡ length before + suc (length behind) = ap length e ∙ length-append before (call ∷ behind) in absurd (omega arith)
 
 -- a spawn and a leave with number 0
-spawned_is : (a : spawning.SpawnAnswer) → spawn_number a ≡ 0 → a ≡ spawning.TheVariants.Spawned
-spawned_is spawning.TheVariants.Spawned e = refl
-spawned_is spawning.TheVariants.BadWord e = absurd (omega arith)
-spawned_is spawning.TheVariants.BadRow e = absurd (omega arith)
-spawned_is spawning.TheVariants.BadTable e = absurd (omega arith)
+spawned_is : (a : Result ⊤ SpawnError) → spawn_number a ≡ 0 → a ≡ Ok tt
+spawned_is (Ok tt) e = refl
+spawned_is (Err spawning.BadWord) e = absurd (omega arith)
+spawned_is (Err spawning.BadRow) e = absurd (omega arith)
+spawned_is (Err spawning.BadTable) e = absurd (omega arith)
 
-left_is : (a : LeaveAnswer) → leave_number a ≡ 0 → a ≡ Left
-left_is Left e = refl
-left_is BadRow e = absurd (omega arith)
-left_is BadTable e = absurd (omega arith)
+left_is : (a : Result ⊤ LeaveError) → leave_number a ≡ 0 → a ≡ Ok tt
+left_is (Ok tt) e = refl
+left_is (Err BadRow) e = absurd (omega arith)
+left_is (Err BadTable) e = absurd (omega arith)
 
 -- ---- who waits after a register has waited before it
 module _ (v : World) (σ : Sound v.table) (words : List ℕ) (j : ℕ) where
-  beside : {r : Registering} → registers.RegisterCallWays v.table words r → (mailbox_live r.table j ≡ mailbox_live v.table j) × (waiter_of r.table j ≡ waiter_of v.table j)
-  beside (registers.bad_word _ q) = (ap (λ (r : Registering). mailbox_live r.table j) q, ap (λ (r : Registering). waiter_of r.table j) q)
+  beside : {r : Answered (Result ⊤ RegisterError) Table} → registers.RegisterCallWays v.table words r → (mailbox_live r.table j ≡ mailbox_live v.table j) × (waiter_of r.table j ≡ waiter_of v.table j)
+  beside (registers.bad_word _ q) = (ap (λ (r : Answered (Result ⊤ RegisterError) Table). mailbox_live r.table j) q, ap (λ (r : Answered (Result ⊤ RegisterError) Table). waiter_of r.table j) q)
   beside (registers.all _ _ a) = ((a.mailboxes j).live, (a.mailboxes j).waiter)
 
   waited : (n : ℕ) (x : TaskId) → Waits (run v (register words ∷ [])) n j x → Waits v n j x
@@ -193,7 +196,7 @@ module _ (log : List ℕ) (t : Tables) where
     abbrev spawned : Spawning
     spawned = spawn_of t.channels t.rows (byte_at log 3) (list_words log 4)
 
-    spawned_named : spawned.answer ≡ spawning.TheVariants.Spawned → (k : ℕ) (x : TaskId) → Told t.channels k x (releasing row) → Says (24 ∷ (spawn_done log t).number ∷ (spawn_done log t).values) k x
+    spawned_named : spawned.answer ≡ Ok tt → (k : ℕ) (x : TaskId) → Told t.channels k x (releasing row) → Says (24 ∷ (spawn_done log t).number ∷ (spawn_done log t).values) k x
     unfolding spawn_done
     spawned_named q k x (inr x') = elim x' [ ]
     spawned_named q k x (inl (by_release ws e g)) =
@@ -210,7 +213,7 @@ module _ (log : List ℕ) (t : Tables) where
     abbrev left : Leaving
     left = leave_of t.channels t.rows (byte_at log 3)
 
-    left_named : left.answer ≡ Left → (k : ℕ) (x : TaskId) → Told t.channels k x (releasing row) → Says (25 ∷ (leave_done log t).number ∷ (leave_done log t).values) k x
+    left_named : left.answer ≡ Ok tt → (k : ℕ) (x : TaskId) → Told t.channels k x (releasing row) → Says (25 ∷ (leave_done log t).number ∷ (leave_done log t).values) k x
     unfolding leave_done
     left_named q k x (inr x') = elim x' [ ]
     left_named q k x (inl (by_release ws e g)) =

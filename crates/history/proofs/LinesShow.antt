@@ -1,4 +1,5 @@
 -- What an operation gives its line shows, and what a line shows its operation gives, `gives_shown`. Assumes nothing.
+use Rattle.std.specs.Prelude.{Err, None, Ok, Option, Result, Some, ⊤}
 use mathlib.Core.Path.{◌≡◌, refl, sym, ap, subst, ◌∙◌}
 use mathlib.Core.Bool.{Bool, true, false}
 use mathlib.Core.List.{List, [], ◌∷◌, ◌++◌, append-nil}
@@ -10,9 +11,8 @@ use Rattle.laws.proofs.Cases.{all_pick}
 use Rattle.ipc_rules.specs.Answers.{message_values, recv_number, recv_values, park_number, park_values}
 use Rattle.ipc_rules.specs.Receive.{recv_of, park_of}
 use Rattle.ipc_rules.specs.declared.state.Message.{Message}
-use Rattle.ipc_rules.specs.declared.answers.RecvAnswer as recv
-use Rattle.ipc_rules.specs.declared.answers.ParkAnswer as park
-use Rattle.ipc_rules.specs.declared.answers.WhyAnswer.{WhyAnswer}
+use Rattle.ipc_rules.specs.declared.answers.RecvError.TheVariants as recv
+use Rattle.ipc_rules.specs.declared.answers.ParkError.TheVariants as park
 use Rattle.operations.specs.Apply.{all_done, unknown_done, apply_of}
 use Rattle.operations.specs.Channels.{reasoned, receive_done, park_done}
 use Rattle.operations.specs.Done.{Done}
@@ -28,34 +28,37 @@ use Rattle.history.proofs.Flows.{each_received, each_given}
 use Rattle.history.proofs.Givings.{only_gives}
 use Rattle.history.proofs.Lines.{same_head, same_rest}
 use Rattle.history.proofs.Along.{Along, end, ◌▸◌, along_all}
+use Rattle.ipc_rules.specs.declared.answers.RecvError.{RecvError}
+use Rattle.ipc_rules.specs.declared.answers.ParkError.{ParkError}
+use Rattle.ipc_rules.specs.declared.answers.WhyError.{WhyError}
 
 -- ---- what was given is in the answer
-received_of : (b : Bool) (a : recv.RecvAnswer) (x : Message) → pick b (by_receive a) [] ≡ x ∷ [] → a ≡ recv.TheVariants.Received x
+received_of : (b : Bool) (a : Result Message RecvError) (x : Message) → pick b (by_receive a) [] ≡ x ∷ [] → a ≡ Ok x
 unfolding pick by_receive
 received_of false a x e = let z : ◌≡◌ {A = ℕ} 0 1 = cc in absurd (omega arith)
-received_of true (recv.TheVariants.Received m) x e = cc
-received_of true recv.TheVariants.BadCap x e = let z : ◌≡◌ {A = ℕ} 0 1 = cc in absurd (omega arith)
-received_of true recv.TheVariants.Empty x e = let z : ◌≡◌ {A = ℕ} 0 1 = cc in absurd (omega arith)
-received_of true recv.TheVariants.BadTable x e = let z : ◌≡◌ {A = ℕ} 0 1 = cc in absurd (omega arith)
+received_of true (Ok m) x e = cc
+received_of true (Err recv.BadCap) x e = let z : ◌≡◌ {A = ℕ} 0 1 = cc in absurd (omega arith)
+received_of true (Err recv.Empty) x e = let z : ◌≡◌ {A = ℕ} 0 1 = cc in absurd (omega arith)
+received_of true (Err recv.BadTable) x e = let z : ◌≡◌ {A = ℕ} 0 1 = cc in absurd (omega arith)
 
-given_of : (b : Bool) (a : park.ParkAnswer) (x : Message) → pick b (by_park a) [] ≡ x ∷ [] → a ≡ park.TheVariants.Given x
+given_of : (b : Bool) (a : Result (Option Message) ParkError) (x : Message) → pick b (by_park a) [] ≡ x ∷ [] → a ≡ Ok (Some x)
 unfolding pick by_park
 given_of false a x e = let z : ◌≡◌ {A = ℕ} 0 1 = cc in absurd (omega arith)
-given_of true (park.TheVariants.Given m) x e = cc
-given_of true park.TheVariants.Parked x e = let z : ◌≡◌ {A = ℕ} 0 1 = cc in absurd (omega arith)
-given_of true park.TheVariants.BadCap x e = let z : ◌≡◌ {A = ℕ} 0 1 = cc in absurd (omega arith)
-given_of true park.TheVariants.Busy x e = let z : ◌≡◌ {A = ℕ} 0 1 = cc in absurd (omega arith)
-given_of true park.TheVariants.Cancelled x e = let z : ◌≡◌ {A = ℕ} 0 1 = cc in absurd (omega arith)
-given_of true park.TheVariants.BadTable x e = let z : ◌≡◌ {A = ℕ} 0 1 = cc in absurd (omega arith)
+given_of true (Ok (Some m)) x e = cc
+given_of true (Ok None) x e = let z : ◌≡◌ {A = ℕ} 0 1 = cc in absurd (omega arith)
+given_of true (Err park.BadCap) x e = let z : ◌≡◌ {A = ℕ} 0 1 = cc in absurd (omega arith)
+given_of true (Err park.Busy) x e = let z : ◌≡◌ {A = ℕ} 0 1 = cc in absurd (omega arith)
+given_of true (Err park.Cancelled) x e = let z : ◌≡◌ {A = ℕ} 0 1 = cc in absurd (omega arith)
+given_of true (Err park.BadTable) x e = let z : ◌≡◌ {A = ℕ} 0 1 = cc in absurd (omega arith)
 
 -- and so in the line, which has no reason then
-received_line : (why : WhyAnswer) (a : recv.RecvAnswer) (x : Message) → a ≡ recv.TheVariants.Received x → 3 ∷ recv_number a ∷ reasoned why (recv_number a) (recv_values a) ≡ 3 ∷ 0 ∷ message_values x
+received_line : (why : Result ⊤ WhyError) (a : Result Message RecvError) (x : Message) → a ≡ Ok x → 3 ∷ recv_number a ∷ reasoned why (recv_number a) (recv_values a) ≡ 3 ∷ 0 ∷ message_values x
 unfolding reasoned pick
-received_line why a x = ap (λ (a : recv.RecvAnswer). 3 ∷ recv_number a ∷ reasoned why (recv_number a) (recv_values a))
+received_line why a x = ap (λ (a : Result Message RecvError). 3 ∷ recv_number a ∷ reasoned why (recv_number a) (recv_values a))
 
-given_line : (why : WhyAnswer) (a : park.ParkAnswer) (x : Message) → a ≡ park.TheVariants.Given x → 4 ∷ park_number a ∷ reasoned why (park_number a) (park_values a) ≡ 4 ∷ 0 ∷ 1 ∷ message_values x
+given_line : (why : Result ⊤ WhyError) (a : Result (Option Message) ParkError) (x : Message) → a ≡ Ok (Some x) → 4 ∷ park_number a ∷ reasoned why (park_number a) (park_values a) ≡ 4 ∷ 0 ∷ 1 ∷ message_values x
 unfolding reasoned pick
-given_line why a x = ap (λ (a : park.ParkAnswer). 4 ∷ park_number a ∷ reasoned why (park_number a) (park_values a))
+given_line why a x = ap (λ (a : Result (Option Message) ParkError). 4 ∷ park_number a ∷ reasoned why (park_number a) (park_values a))
 
 -- ---- an operation that gives message x from channel n
 -- its line shows x, and it does nothing else to the channel
@@ -155,31 +158,31 @@ gives s e o =
 
 -- ---- and back
 -- the message of a line is the answer's
-receive_shows : (why : WhyAnswer) (a : recv.RecvAnswer) (m : Message) → recv_number a ∷ reasoned why (recv_number a) (recv_values a) ≡ 0 ∷ m.tag ∷ m.a ∷ m.b ∷ m.row ∷ [] → a ≡ recv.TheVariants.Received m
+receive_shows : (why : Result ⊤ WhyError) (a : Result Message RecvError) (m : Message) → recv_number a ∷ reasoned why (recv_number a) (recv_values a) ≡ 0 ∷ m.tag ∷ m.a ∷ m.b ∷ m.row ∷ [] → a ≡ Ok m
 unfolding reasoned pick
-receive_shows why (recv.TheVariants.Received x) m e =
+receive_shows why (Ok x) m e =
     let p : x.tag ≡ m.tag = cc in
     let q : x.a ≡ m.a = cc in
     let r : x.b ≡ m.b = cc in
     let s : x.row ≡ m.row = cc in
-    λ i. recv.TheVariants.Received (record { tag = p i; row = s i; a = q i; b = r i })
-receive_shows why recv.TheVariants.BadCap m e = let z : ◌≡◌ {A = ℕ} 0 1 = cc in absurd (omega arith)
-receive_shows why recv.TheVariants.Empty m e = let z : ◌≡◌ {A = ℕ} 0 1 = cc in absurd (omega arith)
-receive_shows why recv.TheVariants.BadTable m e = let z : ◌≡◌ {A = ℕ} 0 1 = cc in absurd (omega arith)
+    λ i. Ok (record { tag = p i; row = s i; a = q i; b = r i })
+receive_shows why (Err recv.BadCap) m e = let z : ◌≡◌ {A = ℕ} 0 1 = cc in absurd (omega arith)
+receive_shows why (Err recv.Empty) m e = let z : ◌≡◌ {A = ℕ} 0 1 = cc in absurd (omega arith)
+receive_shows why (Err recv.BadTable) m e = let z : ◌≡◌ {A = ℕ} 0 1 = cc in absurd (omega arith)
 
-park_shows : (why : WhyAnswer) (a : park.ParkAnswer) (m : Message) → park_number a ∷ reasoned why (park_number a) (park_values a) ≡ 0 ∷ 1 ∷ m.tag ∷ m.a ∷ m.b ∷ m.row ∷ [] → a ≡ park.TheVariants.Given m
+park_shows : (why : Result ⊤ WhyError) (a : Result (Option Message) ParkError) (m : Message) → park_number a ∷ reasoned why (park_number a) (park_values a) ≡ 0 ∷ 1 ∷ m.tag ∷ m.a ∷ m.b ∷ m.row ∷ [] → a ≡ Ok (Some m)
 unfolding reasoned pick
-park_shows why (park.TheVariants.Given x) m e =
+park_shows why (Ok (Some x)) m e =
     let p : x.tag ≡ m.tag = cc in
     let q : x.a ≡ m.a = cc in
     let r : x.b ≡ m.b = cc in
     let s : x.row ≡ m.row = cc in
-    λ i. park.TheVariants.Given (record { tag = p i; row = s i; a = q i; b = r i })
-park_shows why park.TheVariants.Parked m e = let z : ◌≡◌ {A = ℕ} 0 1 = cc in absurd (omega arith)
-park_shows why park.TheVariants.BadCap m e = let z : ◌≡◌ {A = ℕ} 0 1 = cc in absurd (omega arith)
-park_shows why park.TheVariants.Busy m e = let z : ◌≡◌ {A = ℕ} 0 1 = cc in absurd (omega arith)
-park_shows why park.TheVariants.Cancelled m e = let z : ◌≡◌ {A = ℕ} 0 1 = cc in absurd (omega arith)
-park_shows why park.TheVariants.BadTable m e = let z : ◌≡◌ {A = ℕ} 0 1 = cc in absurd (omega arith)
+    λ i. Ok (Some (record { tag = p i; row = s i; a = q i; b = r i }))
+park_shows why (Ok None) m e = let z : ◌≡◌ {A = ℕ} 0 1 = cc in absurd (omega arith)
+park_shows why (Err park.BadCap) m e = let z : ◌≡◌ {A = ℕ} 0 1 = cc in absurd (omega arith)
+park_shows why (Err park.Busy) m e = let z : ◌≡◌ {A = ℕ} 0 1 = cc in absurd (omega arith)
+park_shows why (Err park.Cancelled) m e = let z : ◌≡◌ {A = ℕ} 0 1 = cc in absurd (omega arith)
+park_shows why (Err park.BadTable) m e = let z : ◌≡◌ {A = ℕ} 0 1 = cc in absurd (omega arith)
 
 module _ (s : Logged) (f : Follows s) (bytes : List ℕ) (m : Message) where
   abbrev op : ℕ → Operation

@@ -1,5 +1,6 @@
 -- How long a channel lives: while it does, its ids open it, `ids_stay`; revoked, it lives nowhere again, and they open nothing until
 -- their generation comes round, `ids_end`. Assumes nothing.
+use Rattle.std.specs.Prelude.{Ok}
 use mathlib.Core.Path.{◌≡◌, refl, sym, ap, ◌∙◌}
 use mathlib.Core.Bool.{false}
 use mathlib.Core.List.{List, [], ◌∷◌}
@@ -16,7 +17,6 @@ use Rattle.ipc_rules.specs.Revoke.{revoke_of}
 use Rattle.ipc_rules.specs.declared.state.Waiter.{Waiter}
 use Rattle.ipc_rules.specs.declared.opening.Opening.{Opening}
 use Rattle.ipc_rules.specs.declared.opening.Opening.TheVariants.{Opens, Shut}
-use Rattle.ipc_rules.specs.declared.answers.RevokeAnswer.TheVariants.{Revoked}
 use Rattle.ipc_rules.proofs.AfterRevoke as revokes
 use Rattle.history.specs.Calls.{Call, create, revoke, revoked, answer, after}
 use Rattle.history.specs.World.{World, settled, step, run}
@@ -111,7 +111,7 @@ record Revocation (v : World) (c : CapId) : Type 0 where
   box : ℕ
   opens : any_right_of v.table c ≡ Opens box
 
-revocation : (v : World) (c : CapId) (x : Waiter) → Tidy v → answer v.table (revoke c) ≡ revoked (Revoked x) → Revocation v c
+revocation : (v : World) (c : CapId) (x : Waiter) → Tidy v → answer v.table (revoke c) ≡ revoked (Ok x) → Revocation v c
 unfolding answer
 revocation v c x τ e = by (revokes.revoke_ways v.table c τ.sound)
   where

@@ -1,4 +1,5 @@
 -- The tables of a log's run are those after its operations, `runs_over`. Assumes nothing.
+use Rattle.std.specs.Prelude.{Err, Ok}
 use mathlib.Core.Path.{◌≡◌, refl, subst}
 use mathlib.Core.List.{List, ◌∷◌}
 use Prim.Native.Nat.{ℕ, zero, suc, ◌+◌, ◌-◌, ◌≤◌}
@@ -16,7 +17,7 @@ use Rattle.operations.specs.Apply.{apply_of}
 use Rattle.operations.specs.declared.Tables.{Tables}
 use Rattle.oplog.specs.Step.{step_number, reading, writing, text_of, refused_step, step_of}
 use Rattle.oplog.specs.Run.{Ended, run_from}
-use Rattle.oplog.specs.declared.StepAnswer.TheVariants.{Took, NoRoom}
+use Rattle.oplog.specs.declared.StepError.TheVariants.{NoRoom}
 use Rattle.oplog.specs.declared.Stepped.{Stepped}
 use Rattle.history.specs.Operations.{Logged, operate, operated}
 use Rattle.history.specs.Log.{records_in, RunsOver}
@@ -33,14 +34,14 @@ record Takes (log : List ℕ) (t : Tables) (x : Stepped) : Type 0 where
 module _ (log out : List ℕ) (number at : ℕ) (t : Tables) where
   module _ (op len : ℕ) (er : read_of log ≡ read.TheVariants.Whole op len) where
     abbrev writes : Written → Stepped
-    writes w = writing w (refused_step at t NoRoom) (λ next. record { answer = Took; used = len; at = next; tables = (apply_of op log t).tables })
+    writes w = writing w (refused_step at t (Err NoRoom)) (λ next. record { answer = Ok tt; used = len; at = next; tables = (apply_of op log t).tables })
 
     by_writing : (w : Written) → step_number (writes w).answer ≡ 0 → Takes log t (writes w)
     unfolding writing
     by_writing (Upto next) e = record { op = op; len = len; reads = er; used = refl; tables = refl }
     by_writing Crowded e = absurd (omega arith)
 
-  by_reading : (q : read.Read) → read_of log ≡ q → let x : Stepped = reading q (refused_step at t) (λ op len. writing (put_of out at (text_of number op (apply_of op log t))) (refused_step at t NoRoom) (λ next. record { answer = Took; used = len; at = next; tables = (apply_of op log t).tables })) in
+  by_reading : (q : read.Read) → read_of log ≡ q → let x : Stepped = reading q (refused_step at t) (λ op len. writing (put_of out at (text_of number op (apply_of op log t))) (refused_step at t (Err NoRoom)) (λ next. record { answer = Ok tt; used = len; at = next; tables = (apply_of op log t).tables })) in
       step_number x.answer ≡ 0 → Takes log t x
   unfolding reading
   by_reading read.TheVariants.Short er e = absurd (omega arith)

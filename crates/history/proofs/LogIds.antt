@@ -1,4 +1,5 @@
 -- Demand 3's first sentence in a log, `log_ids_keep`. Assumes nothing.
+use Rattle.std.specs.Prelude.{Err, Ok, Result, ⊤}
 use mathlib.Core.Path.{◌≡◌, refl, sym, ap, subst, ◌∙◌}
 use mathlib.Core.Bool.{Bool, true, ◌&&◌, not}
 use mathlib.Core.List.{List, [], ◌∷◌}
@@ -17,9 +18,7 @@ use Rattle.ipc_rules.specs.declared.state.Channel.{Channel}
 use Rattle.ipc_rules.specs.declared.state.Message.{Message}
 use Rattle.ipc_rules.specs.declared.state.TaskId.{TaskId}
 use Rattle.ipc_rules.specs.declared.state.Waiter.{Waiter}
-use Rattle.ipc_rules.specs.declared.answers.WhyAnswer.{WhyAnswer}
-use Rattle.ipc_rules.specs.declared.answers.CreateAnswer.{CreateAnswer}
-use Rattle.ipc_rules.specs.declared.answers.CreateAnswer.TheVariants.{Created, NoMailbox, NoEndpoint, BadTable}
+use Rattle.ipc_rules.specs.declared.answers.CreateError.TheVariants.{NoMailbox, NoEndpoint, BadTable}
 use Rattle.ipc_rules.specs.declared.opening.Asked.TheVariants.{Send}
 use Rattle.logread.specs.Little.{byte_at}
 use Rattle.operations.specs.Apply.{apply_of}
@@ -40,6 +39,8 @@ use Rattle.history.proofs.Ids.{ids_keep}
 use Rattle.history.proofs.Operations.{goes_on, other_number, operations_follow, operated_follow, operations_run, logs_follow}
 use Rattle.history.proofs.Lines.{same_rest}
 use Rattle.history.proofs.Bare.{reason_alone, no_reason}
+use Rattle.ipc_rules.specs.declared.answers.WhyError.{WhyError}
+use Rattle.ipc_rules.specs.declared.answers.CreateError.{CreateError}
 
 -- ephemeral where the flag is not 0
 abbrev flag : List ℕ → Bool
@@ -51,17 +52,17 @@ unfolding calls_of run
 creates s log = goes_on s (creation log) (other_number 0 log)
 
 -- two values are two ids
-record Shown (a : CreateAnswer) (x y : ℕ) : Type 0 where
+record Shown (a : Result Channel CreateError) (x y : ℕ) : Type 0 where
   ids : Channel
-  made : a ≡ Created ids
+  made : a ≡ Ok ids
   send : ids.send.raw ≡ x
   recv : ids.recv.raw ≡ y
 
-shown : (a : CreateAnswer) (x y : ℕ) → create_number a ∷ create_values a ≡ 0 ∷ x ∷ y ∷ [] → Shown a x y
-shown (Created ids) x y e = record { ids = ids; made = refl; send = cc; recv = cc }
-shown NoMailbox x y e = let z : ◌≡◌ {A = ℕ} 0 1 = cc in absurd (omega arith)
-shown NoEndpoint x y e = let z : ◌≡◌ {A = ℕ} 0 1 = cc in absurd (omega arith)
-shown BadTable x y e = let z : ◌≡◌ {A = ℕ} 0 1 = cc in absurd (omega arith)
+shown : (a : Result Channel CreateError) (x y : ℕ) → create_number a ∷ create_values a ≡ 0 ∷ x ∷ y ∷ [] → Shown a x y
+shown (Ok ids) x y e = record { ids = ids; made = refl; send = cc; recv = cc }
+shown (Err NoMailbox) x y e = let z : ◌≡◌ {A = ℕ} 0 1 = cc in absurd (omega arith)
+shown (Err NoEndpoint) x y e = let z : ◌≡◌ {A = ℕ} 0 1 = cc in absurd (omega arith)
+shown (Err BadTable) x y e = let z : ◌≡◌ {A = ℕ} 0 1 = cc in absurd (omega arith)
 
 create_shows : (log : List ℕ) (t : Tables) →
     (done_by (creation log) t).number ∷ (done_by (creation log) t).values ≡ create_number (create_of t.channels (flag log)).answer ∷ create_values (create_of t.channels (flag log)).answer
@@ -103,7 +104,7 @@ module _ (s : Logged) (f : Follows s) (n : ℕ) (c : CapId) (r : Reach s.world n
       channel k lives (e ∙ rw (← f.channels) (ap (λ (x : Answer). o.number ∷ number_of x ∷ values_of x) a))
 
   -- and where it can show a reason, the mailbox's answer has none
-  by_reason : (o : Operation) (why : WhyAnswer) (call : Call) (of : ℕ → Answer) → let x = answer s.tables.channels call in
+  by_reason : (o : Operation) (why : Result ⊤ WhyError) (call : Call) (of : ℕ → Answer) → let x = answer s.tables.channels call in
       line_in s o ≡ o.number ∷ number_of x ∷ reasoned why (number_of x) (values_of x) → reason_of o s.tables ≡ why_values why → ((k : ℕ) → number_of (of k) ≡ no.bad_cap → ⊥) →
       Reaches s.world n call of → LineReaches s n o of
   by_reason o why call of e q h (reach.nothing number values _) =

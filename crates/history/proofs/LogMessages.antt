@@ -1,4 +1,5 @@
 -- Demand 3's second sentence in a log, `log_messages_given`. Assumes nothing.
+use Rattle.std.specs.Prelude.{Err, Ok, Result}
 use mathlib.Core.Path.{◌≡◌, refl, sym, ap, subst, ◌∙◌}
 use mathlib.Core.Bool.{true, false}
 use mathlib.Core.List.{List, [], ◌∷◌, ◌++◌, append-nil}
@@ -11,8 +12,7 @@ use Rattle.ipc_rules.specs.Send.{send_of}
 use Rattle.ipc_rules.specs.Views.{queue_of}
 use Rattle.ipc_rules.specs.declared.state.Message.{Message}
 use Rattle.ipc_rules.specs.declared.state.Payload.{Payload}
-use Rattle.ipc_rules.specs.declared.answers.SendAnswer.{SendAnswer}
-use Rattle.ipc_rules.specs.declared.answers.SendAnswer.TheVariants.{Sent, BadRow, BadCap, Full, BadTable}
+use Rattle.ipc_rules.specs.declared.answers.SendError.TheVariants.{BadRow, BadCap, Full, BadTable}
 use Rattle.operations.specs.Apply.{apply_of}
 use Rattle.operations.specs.Channels.{send_done}
 use Rattle.logread.specs.Little.{byte_at}
@@ -28,6 +28,8 @@ use Rattle.history.proofs.Flows.{each_sent}
 use Rattle.history.proofs.Messages.{OnceOver, once_over}
 use Rattle.history.proofs.Operations.{goes_on, other_number, operations_follow, operated_follow, operations_run, logs_follow}
 use Rattle.history.proofs.LinesShow.{gives}
+use Rattle.ipc_rules.specs.declared.state.Waiter.{Waiter}
+use Rattle.ipc_rules.specs.declared.answers.SendError.{SendError}
 
 -- the send of a log is the call
 sends : (s : Logged) (log : List ℕ) → (operate s (sending log)).world ≡ step s.world (send (id_at log 3) (payload_at log 7) (byte_at log 27))
@@ -58,12 +60,12 @@ module _ (s : Logged) (f : Follows s) (log : List ℕ) where
   m = sent_by log
 
   -- on a channel of the world
-  accepts : (a : SendAnswer) → (send_of s.world.table c p row).answer ≡ a → send_number a ≡ 0 → SomeAccepts s.world c p row
-  accepts (Sent x) e z = each_sent s.world f.reached c p row x e
-  accepts BadRow e z = absurd (omega arith)
-  accepts BadCap e z = absurd (omega arith)
-  accepts Full e z = absurd (omega arith)
-  accepts BadTable e z = absurd (omega arith)
+  accepts : (a : Result Waiter SendError) → (send_of s.world.table c p row).answer ≡ a → send_number a ≡ 0 → SomeAccepts s.world c p row
+  accepts (Ok x) e z = each_sent s.world f.reached c p row x e
+  accepts (Err BadRow) e z = absurd (omega arith)
+  accepts (Err BadCap) e z = absurd (omega arith)
+  accepts (Err Full) e z = absurd (omega arith)
+  accepts (Err BadTable) e z = absurd (omega arith)
 
   module _ (a : SomeAccepts s.world c p row) (between : List Operation) (lasts : lasting between ≡ true) (o : Operation) where
     abbrev v : Logged

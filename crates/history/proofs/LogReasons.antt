@@ -1,4 +1,6 @@
 -- Request No. 6 in a log, `log_reasons_shown`. Assumes nothing.
+use Rattle.shown.proofs.Few.{shows_nothing}
+use Rattle.std.specs.Prelude.{Err, Result, ⊤}
 use mathlib.Core.Path.{◌≡◌, refl, sym, ap, ◌∙◌}
 use mathlib.Core.List.{List, [], ◌∷◌}
 use Prim.Native.Nat.{ℕ}
@@ -20,8 +22,7 @@ use Rattle.ipc_rules.specs.Revoke.{revoke_of}
 use Rattle.ipc_rules.specs.Holds.{release_of}
 use Rattle.ipc_rules.specs.Waiters.{clear_of}
 use Rattle.ipc_rules.specs.Why.{why_of, why_values, Explains}
-use Rattle.ipc_rules.specs.declared.answers.WhyAnswer.{WhyAnswer}
-use Rattle.ipc_rules.specs.declared.answers.WhyAnswer.TheVariants.{Shut}
+use Rattle.ipc_rules.specs.declared.answers.WhyError.TheVariants.{Shut}
 use Rattle.ipc_rules.specs.declared.opening.Asked.{Asked}
 use Rattle.ipc_rules.specs.declared.opening.Asked.TheVariants.{Send, Receive, Either}
 use Rattle.ipc_rules.specs.declared.opening.Reason.{Reason}
@@ -47,14 +48,15 @@ use Rattle.history.proofs.Along.{Along, end, ◌▸◌, along_all}
 use Rattle.history.proofs.Bare.{Bare, none_bare, create_bare, revoke_bare, release_bare, holders_bare, clear_bare, counts_bare, get_bare, mint_bare, lookup_bare, spawn_bare, leave_bare, reason_alone}
 use Rattle.history.proofs.Lines.{same_head, same_rest}
 use Rattle.history.proofs.Operations.{logs_follow}
+use Rattle.ipc_rules.specs.declared.answers.WhyError.{WhyError}
 
 -- ---- the four operations
 -- a line of number n and the values vs, or the reason
 module _ (s : Logged) (f : Follows s) (o : Operation) (asked : Asked) (n : ℕ) (vs : List ℕ) where
-  abbrev why : WhyAnswer
+  abbrev why : Result ⊤ WhyError
   why = why_of s.tables.channels (id_at o.bytes 3) asked
 
-  ends_with : line_in s o ≡ o.number ∷ n ∷ reasoned why n vs → n ≡ no.bad_cap → (r : Reason) → why ≡ Shut r → EndsWith s o r
+  ends_with : line_in s o ≡ o.number ∷ n ∷ reasoned why n vs → n ≡ no.bad_cap → (r : Reason) → why ≡ Err (Shut r) → EndsWith s o r
   ends_with e h r q = e ∙ (λ i. o.number ∷ h i ∷ (reason_alone why n vs h ∙ ap why_values q) i)
 
   line_reasons : line_in s o ≡ o.number ∷ n ∷ reasoned why n vs → Explains why (n ≡ no.bad_cap) → LineReasons s o asked
@@ -95,7 +97,7 @@ module _ (log : List ℕ) (t : Tables) where
       alone Receive (park_number (park_of t.channels (id_at log 3) (task_at log 7)).answer) (park_values (park_of t.channels (id_at log 3) (task_at log 7)).answer) ▸
       alone Either (queued_number (queued_of t.channels (id_at log 3))) (queued_values (queued_of t.channels (id_at log 3))) ▸
       revoke_bare (revoke_of t.channels (id_at log 3)).answer ▸
-      (λ _. refl) ▸
+      (λ _. shows_nothing _) ▸
       release_bare (release_of t.channels (list_slots log 3)).answer (release_of t.channels (list_slots log 3)).waiters ▸
       holders_bare (holders_of t.channels (id_at log 3)) ▸
       clear_bare (clear_of t.channels (task_at log 3)).answer ▸
@@ -103,9 +105,9 @@ module _ (log : List ℕ) (t : Tables) where
       (λ _. refl) ▸
       get_bare (get_of t.rows (byte_at log 3) (byte_at log 4)) ▸
       none_bare _ ▸
-      (λ _. refl) ▸
-      (λ _. refl) ▸
-      (λ _. refl) ▸
+      (λ _. shows_nothing _) ▸
+      (λ _. shows_nothing _) ▸
+      (λ _. shows_nothing _) ▸
       none_bare _ ▸
       mint_bare (tasks.mint_of t.tasks (little_at log 3 4)).answer ▸
       lookup_bare (tasks.lookup_of t.tasks (id_at log 3)) ▸
@@ -114,7 +116,7 @@ module _ (log : List ℕ) (t : Tables) where
       lookup_bare (irqs.lookup_of t.irqs (id_at log 3)) ▸
       spawn_bare (spawn_of t.channels t.rows (byte_at log 3) (list_words log 4)).answer (spawn_of t.channels t.rows (byte_at log 3) (list_words log 4)).waiters ▸
       leave_bare (leave_of t.channels t.rows (byte_at log 3)).answer (leave_of t.channels t.rows (byte_at log 3)).waiters ▸
-      (λ _. refl) ▸
+      (λ _. shows_nothing _) ▸
       counts_bare (refusals_of t.channels) ▸
       end
 

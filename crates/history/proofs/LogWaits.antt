@@ -1,4 +1,5 @@
 -- Demand 3's sentences on waits in a log, `log_waits_named`, and of a spawn's release, `spawns_name`. Assumes nothing.
+use Rattle.std.specs.Prelude.{Err, None, Ok, Option, Result, Some, ⊤}
 use mathlib.Core.Path.{◌≡◌, refl, sym, ap, subst, ◌∙◌}
 use mathlib.Core.Bool.{true, false, not}
 use mathlib.Core.List.{List, [], ◌∷◌, ◌++◌}
@@ -16,9 +17,7 @@ use Rattle.ipc_rules.specs.Views.{hold_count, ephemeral_of, held_in}
 use Rattle.ipc_rules.specs.Why.{why_of}
 use Rattle.ipc_rules.specs.declared.state.TaskId.{TaskId}
 use Rattle.ipc_rules.specs.declared.opening.Asked.TheVariants.{Receive}
-use Rattle.ipc_rules.specs.declared.answers.WhyAnswer.{WhyAnswer}
-use Rattle.ipc_rules.specs.declared.answers.ParkAnswer.{ParkAnswer}
-use Rattle.ipc_rules.specs.declared.answers.ParkAnswer.TheVariants.{Parked, Given, BadCap, Busy, Cancelled, BadTable}
+use Rattle.ipc_rules.specs.declared.answers.ParkError.TheVariants.{BadCap, Busy, Cancelled, BadTable}
 use Rattle.logread.specs.Little.{byte_at}
 use Rattle.logread.specs.Lists.{list_words}
 use Rattle.operations.specs.Apply.{apply_of}
@@ -39,6 +38,9 @@ use Rattle.history.proofs.Operations.{goes_on, other_number, operations_follow, 
 use Rattle.history.proofs.Joined.{row_four}
 use Rattle.history.proofs.Lines.{same_head, same_rest}
 use Rattle.history.proofs.LinesName.{names}
+use Rattle.ipc_rules.specs.declared.answers.WhyError.{WhyError}
+use Rattle.ipc_rules.specs.declared.state.Message.{Message}
+use Rattle.ipc_rules.specs.declared.answers.ParkError.{ParkError}
 
 -- the park of a log is the call
 parks : (s : Logged) (log : List ℕ) → (operate s (parking log)).world ≡ step s.world (park (id_at log 3) (task_at log 7))
@@ -51,14 +53,14 @@ unfolding apply_of park_done
 park_shows log t = refl
 
 -- `0` is Parked alone
-zero_parked : (why : WhyAnswer) (a : ParkAnswer) → park_number a ∷ reasoned why (park_number a) (park_values a) ≡ 0 ∷ 0 ∷ [] → a ≡ Parked
+zero_parked : (why : Result ⊤ WhyError) (a : Result (Option Message) ParkError) → park_number a ∷ reasoned why (park_number a) (park_values a) ≡ 0 ∷ 0 ∷ [] → a ≡ Ok None
 unfolding reasoned pick
-zero_parked why Parked e = refl
-zero_parked why (Given m) e = let z : ◌≡◌ {A = ℕ} 0 1 = cc in absurd (omega arith)
-zero_parked why BadCap e = let z : ◌≡◌ {A = ℕ} 0 1 = cc in absurd (omega arith)
-zero_parked why Busy e = let z : ◌≡◌ {A = ℕ} 0 1 = cc in absurd (omega arith)
-zero_parked why Cancelled e = let z : ◌≡◌ {A = ℕ} 0 1 = cc in absurd (omega arith)
-zero_parked why BadTable e = let z : ◌≡◌ {A = ℕ} 0 1 = cc in absurd (omega arith)
+zero_parked why (Ok None) e = refl
+zero_parked why (Ok (Some m)) e = let z : ◌≡◌ {A = ℕ} 0 1 = cc in absurd (omega arith)
+zero_parked why (Err BadCap) e = let z : ◌≡◌ {A = ℕ} 0 1 = cc in absurd (omega arith)
+zero_parked why (Err Busy) e = let z : ◌≡◌ {A = ℕ} 0 1 = cc in absurd (omega arith)
+zero_parked why (Err Cancelled) e = let z : ◌≡◌ {A = ℕ} 0 1 = cc in absurd (omega arith)
+zero_parked why (Err BadTable) e = let z : ◌≡◌ {A = ℕ} 0 1 = cc in absurd (omega arith)
 
 -- ---- which operation comes first
 -- where none of the operations is an accepted `new`, none before one of them is, nor is that one

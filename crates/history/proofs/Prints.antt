@@ -1,4 +1,5 @@
 -- What replay prints of a log is the lines of its operations and one more, `logs_print`. Assumes nothing.
+use Rattle.std.specs.Prelude.{Ok}
 use mathlib.Core.Path.{◌≡◌, refl, sym, ap, ◌∙◌}
 use mathlib.Core.List.{List, [], ◌∷◌, ◌++◌, append_assoc}
 use Prim.Native.Nat.{ℕ, zero, suc, ◌+◌, ◌≤◌}
@@ -15,7 +16,6 @@ use Rattle.operations.specs.Apply.{apply_of}
 use Rattle.operations.specs.declared.Tables.{Tables}
 use Rattle.oplog.specs.Step.{step_number, reading, text_of}
 use Rattle.oplog.specs.Text.{Said, fault, said_of, text_from, text_at, most}
-use Rattle.oplog.specs.declared.StepAnswer.TheVariants.{Took}
 use Rattle.history.specs.Operations.{Operation, done_by, Logged, operate, beginning}
 use Rattle.history.specs.Log as log
 use Rattle.history.specs.Log.{records_in, lines_of, Last, finished, Printed, LogsPrint}
@@ -31,7 +31,7 @@ module _ (k : ℕ) (rest : List ℕ) (number : ℕ) (t : Tables) where
   Beside x os = Says k rest number t x os
 
   by_reading : (q : read.Read) → Beside
-      (reading q (fault t) (λ op len. record { answer = Took; used = len; text = text_of number op (apply_of op rest t); tables = (apply_of op rest t).tables }))
+      (reading q (fault t) (λ op len. record { answer = Ok tt; used = len; text = text_of number op (apply_of op rest t); tables = (apply_of op rest t).tables }))
       (reading q (λ _. []) (λ op len. record { number = op; bytes = rest } ∷ records_in k (drop len rest)))
   unfolding reading
   by_reading read.TheVariants.Short = faulty (λ e. omega arith) refl

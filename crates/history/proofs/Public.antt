@@ -1,4 +1,5 @@
 -- In a run the public functions are their rules, `public_calls`. Assumes nothing.
+use Rattle.std.specs.Prelude.{Option, Result, ℕ, ⊤}
 use mathlib.Core.Path.{◌≡◌, refl, ap}
 use Rattle.laws.specs.Pick.{pick}
 use Rattle.ipc_sound.specs.Border.{guarded}
@@ -12,19 +13,22 @@ use Rattle.ipc_rules.specs.Holds.{register_of, release_of}
 use Rattle.ipc_rules.specs.Revoke.{revoke_of}
 use Rattle.ipc_rules.specs.Waiters.{clear_of}
 use Rattle.ipc_rules.specs.declared.state.Table.{Table}
-use Rattle.ipc_rules.specs.declared.answers.Creation.{Creation}
-use Rattle.ipc_rules.specs.declared.answers.Sending.{Sending}
-use Rattle.ipc_rules.specs.declared.answers.Receiving.{Receiving}
-use Rattle.ipc_rules.specs.declared.answers.Parking.{Parking}
-use Rattle.ipc_rules.specs.declared.answers.Registering.{Registering}
 use Rattle.ipc_rules.specs.declared.answers.Releasing.{Releasing}
-use Rattle.ipc_rules.specs.declared.answers.Revoking.{Revoking}
-use Rattle.ipc_rules.specs.declared.answers.Clearing.{Clearing}
-use Rattle.ipc_rules.specs.declared.answers.Noting.{Noting}
 use Rattle.ipc_sound.proofs.Decide.{test_of}
 use Rattle.history.specs.Calls.{Call, create, send, receive, park, queued, revoke, register, release, holders, clear, note_authority, note_state, counts, four_slots, answer, after}
 use Rattle.history.specs.Public.{public_answer, public_after, PublicCalls, WhyServed}
 use Rattle.history.proofs.Kept.{reached_sound}
+use Rattle.ipc_rules.specs.declared.state.Channel.{Channel}
+use Rattle.ipc_rules.specs.declared.answers.CreateError.{CreateError}
+use Rattle.shown.specs.declared.Answered.{Answered}
+use Rattle.ipc_rules.specs.declared.state.Waiter.{Waiter}
+use Rattle.ipc_rules.specs.declared.answers.SendError.{SendError}
+use Rattle.ipc_rules.specs.declared.state.Message.{Message}
+use Rattle.ipc_rules.specs.declared.answers.RecvError.{RecvError}
+use Rattle.ipc_rules.specs.declared.answers.ParkError.{ParkError}
+use Rattle.ipc_rules.specs.declared.answers.RegisterError.{RegisterError}
+use Rattle.ipc_rules.specs.declared.answers.CapError.{CapError}
+use Rattle.ipc_rules.specs.declared.answers.TableError.{TableError}
 
 -- on a sound table the border serves the rule
 pub served : {A : Type 0} (t : Table) (refused rule : A) → Sound t → guarded t refused rule ≡ rule
@@ -49,18 +53,18 @@ answers t counts s = rw (served t _ _ s)
 
 tables : (t : Table) (call : Call) → Sound t → public_after t call ≡ after t call
 unfolding public_after after
-tables t (create ephemeral) s = ap (λ (r : Creation). r.table) (served t _ (create_of t ephemeral) s)
-tables t (send c p row) s = ap (λ (r : Sending). r.table) (served t _ (send_of t c p row) s)
-tables t (receive c) s = ap (λ (r : Receiving). r.table) (served t _ (recv_of t c) s)
-tables t (park c task) s = ap (λ (r : Parking). r.table) (served t _ (park_of t c task) s)
+tables t (create ephemeral) s = ap (λ (r : Answered (Result Channel CreateError) Table). r.table) (served t _ (create_of t ephemeral) s)
+tables t (send c p row) s = ap (λ (r : Answered (Result Waiter SendError) Table). r.table) (served t _ (send_of t c p row) s)
+tables t (receive c) s = ap (λ (r : Answered (Result Message RecvError) Table). r.table) (served t _ (recv_of t c) s)
+tables t (park c task) s = ap (λ (r : Answered (Result (Option Message) ParkError) Table). r.table) (served t _ (park_of t c task) s)
 tables t (queued c) s = refl
-tables t (revoke c) s = ap (λ (r : Revoking). r.table) (served t _ (revoke_of t c) s)
-tables t (register words) s = ap (λ (r : Registering). r.table) (served t _ (register_of t words) s)
+tables t (revoke c) s = ap (λ (r : Answered (Result Waiter CapError) Table). r.table) (served t _ (revoke_of t c) s)
+tables t (register words) s = ap (λ (r : Answered (Result ⊤ RegisterError) Table). r.table) (served t _ (register_of t words) s)
 tables t (release x y z v) s = ap (λ (r : Releasing). r.table) (served t _ (release_of t (four_slots x y z v)) s)
 tables t (holders c) s = refl
-tables t (clear task) s = ap (λ (r : Clearing). r.table) (served t _ (clear_of t task) s)
-tables t note_authority s = ap (λ (r : Noting). r.table) (served t _ (note_authority_of t) s)
-tables t note_state s = ap (λ (r : Noting). r.table) (served t _ (note_state_of t) s)
+tables t (clear task) s = ap (λ (r : Answered (Result ℕ TableError) Table). r.table) (served t _ (clear_of t task) s)
+tables t note_authority s = ap (λ (r : Answered (Result ⊤ TableError) Table). r.table) (served t _ (note_authority_of t) s)
+tables t note_state s = ap (λ (r : Answered (Result ⊤ TableError) Table). r.table) (served t _ (note_state_of t) s)
 tables t counts s = refl
 
 pub public_calls : PublicCalls

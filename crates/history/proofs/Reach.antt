@@ -1,4 +1,5 @@
 -- Where an id opens one channel or nothing, each call with it is answered by that channel's mailbox or refused. Assumes nothing.
+use Rattle.std.specs.Prelude.{Err, None, Ok, Option, Result, Some}
 use mathlib.Core.Path.{◌≡◌, refl, sym, ap, subst, ◌∙◌}
 use mathlib.Core.Bool.{Bool, true, false, ◌&&◌}
 use Prim.Native.Nat.{ℕ, zero, suc, ◌<◌}
@@ -23,11 +24,7 @@ use Rattle.ipc_rules.specs.Views.{queue_of, waiter_of, hold_count, ephemeral_of,
 use Rattle.ipc_rules.specs.declared.state.Payload.{Payload}
 use Rattle.ipc_rules.specs.declared.state.TaskId.{TaskId}
 use Rattle.ipc_rules.specs.declared.state.Table.{Table}
-use Rattle.ipc_rules.specs.declared.answers.Sending.{Sending}
-use Rattle.ipc_rules.specs.declared.answers.Receiving.{Receiving}
-use Rattle.ipc_rules.specs.declared.answers.Parking.{Parking}
-use Rattle.ipc_rules.specs.declared.answers.ParkAnswer.TheVariants.{Parked, Given, BadCap, Busy, Cancelled}
-use Rattle.ipc_rules.specs.declared.answers.Revoking.{Revoking}
+use Rattle.ipc_rules.specs.declared.answers.ParkError.TheVariants.{BadCap, Busy, Cancelled}
 use Rattle.ipc_rules.specs.declared.opening.Opening.{Opening}
 use Rattle.ipc_rules.specs.declared.opening.Opening.TheVariants.{Opens, Shut}
 use Rattle.ipc_rules.proofs.Changes.{alike_same, steady_same}
@@ -43,6 +40,13 @@ use Rattle.history.specs.Reach.{Reaches, nothing, channel, Reach, oldest_of, par
 use Rattle.history.specs.Ids.{OpensOnly}
 use Rattle.history.proofs.Refusals.{rows_refused}
 use Rattle.history.proofs.ReachLists.{touch_register, touch_release, alike_register, alike_release}
+use Rattle.ipc_rules.specs.declared.state.Waiter.{Waiter}
+use Rattle.ipc_rules.specs.declared.answers.SendError.{SendError}
+use Rattle.shown.specs.declared.Answered.{Answered}
+use Rattle.ipc_rules.specs.declared.state.Message.{Message}
+use Rattle.ipc_rules.specs.declared.answers.RecvError.{RecvError}
+use Rattle.ipc_rules.specs.declared.answers.ParkError.{ParkError}
+use Rattle.ipc_rules.specs.declared.answers.CapError.{CapError}
 
 -- an opening opens one mailbox
 one_opens : {o : Opening} {j k : ℕ} → o ≡ Opens j → o ≡ Opens k → j ≡ k
@@ -54,22 +58,22 @@ same_counts t = record { steady = steady_same t; mailboxes = alike_same t }
 
 -- ---- a park's answer
 -- the choices of the rule, by the answer alone
-park_choice : (a b : Bool) (x y z : Parking) → (pick {A = Parking} a x (pick b y z)).answer ≡ pick a x.answer (pick b y.answer z.answer)
+park_choice : (a b : Bool) (x y z : Answered (Result (Option Message) ParkError) Table) → (pick {A = Answered (Result (Option Message) ParkError) Table} a x (pick b y z)).answer ≡ pick a x.answer (pick b y.answer z.answer)
 unfolding pick
 park_choice true b x y z = refl
 park_choice false true x y z = refl
 park_choice false false x y z = refl
 
 module _ (t : Table) (c : CapId) (task : TaskId) (k : ℕ) where
-  abbrev unsaid : Parking
+  abbrev unsaid : Answered (Result (Option Message) ParkError) Table
   unsaid =
-      pick (ephemeral_of t k && eqb (hold_count t k) 0) (record { answer = Cancelled; table = t })
-      (pick (other_waits (waiter_of t k) task) (record { answer = Busy; table = state_raised t })
-      (record { answer = Parked; table = parked_in t k task }))
+      pick (ephemeral_of t k && eqb (hold_count t k) 0) (record { answer = Err Cancelled; table = t })
+      (pick (other_waits (waiter_of t k) task) (record { answer = Err Busy; table = state_raised t })
+      (record { answer = Ok None; table = parked_in t k task }))
 
   -- n messages wait
   by_length : (n : ℕ) →
-      (pick {A = Parking} (ltb 0 n) (record { answer = Given (oldest t k); table = taken_from t k }) unsaid).answer
+      (pick {A = Answered (Result (Option Message) ParkError) Table} (ltb 0 n) (record { answer = Ok (Some (oldest t k)); table = taken_from t k }) unsaid).answer
       ≡ park_by task (ring_from (message_in t k) t.sizes.depth (mailbox_at t k).ring.tail n) (ephemeral_of t k) (hold_count t k) (waiter_of t k)
   unfolding park_by ring_from pick
   by_length zero = park_choice (ephemeral_of t k && eqb (hold_count t k) 0) (other_waits (waiter_of t k) task) _ _ _
@@ -79,7 +83,7 @@ module _ (t : Table) (c : CapId) (task : TaskId) (k : ℕ) where
   unfolding park_of queue_of opened
   park_answers o = rw o (by_length (mailbox_at t k).ring.len)
 
-park_shut : (t : Table) (c : CapId) (task : TaskId) → opening_of t c receive_right ≡ Shut → park_of t c task ≡ record { answer = BadCap; table = authority_raised t }
+park_shut : (t : Table) (c : CapId) (task : TaskId) → opening_of t c receive_right ≡ Shut → park_of t c task ≡ record { answer = Err BadCap; table = authority_raised t }
 unfolding park_of opened
 park_shut t c task o = rw o
 
@@ -98,8 +102,8 @@ module _ (w : World) (n : ℕ) (c : CapId) (σ : Sound w.table) (only : OpensOnl
       by : sends.SendWays t c p row (send_of t c p row) → Reaches w n (send c p row) (send_at t)
       by (sends.bad_row h _) = absurd (omega arith)
       by (sends.bad_cap _ _ q) =
-          nothing (ap (λ (r : Sending). send_number r.answer) q) (ap (λ (r : Sending). send_values r.answer) q) (subst (λ (r : Sending). OnlyCounts t r.table) (sym q) (authority_only t))
-      by (sends.full _ k o f q) = channel k (only.by send_right k o) (ap sent (yes _ (eq-eqb _ _ f) (ap (λ (r : Sending). r.answer) q))) (others k o)
+          nothing (ap (λ (r : Answered (Result Waiter SendError) Table). send_number r.answer) q) (ap (λ (r : Answered (Result Waiter SendError) Table). send_values r.answer) q) (subst (λ (r : Answered (Result Waiter SendError) Table). OnlyCounts t r.table) (sym q) (authority_only t))
+      by (sends.full _ k o f q) = channel k (only.by send_right k o) (ap sent (yes _ (eq-eqb _ _ f) (ap (λ (r : Answered (Result Waiter SendError) Table). r.answer) q))) (others k o)
       by (sends.sent _ a x) =
           let room : length (queue_of t a.box) ≡ t.sizes.depth → ⊥ = λ e. let l = a.below in omega arith in
           channel a.box (only.by send_right a.box a.opens) (ap sent (no _ (ne_eqb _ _ room) x.answer)) (others a.box a.opens)
@@ -113,9 +117,9 @@ module _ (w : World) (n : ℕ) (c : CapId) (σ : Sound w.table) (only : OpensOnl
 
       by : receives.RecvWays t c (recv_of t c) → Reaches w n (receive c) (receive_at t)
       by (receives.bad_cap _ q) =
-          nothing (ap (λ (r : Receiving). recv_number r.answer) q) (ap (λ (r : Receiving). recv_values r.answer) q) (subst (λ (r : Receiving). OnlyCounts t r.table) (sym q) (authority_only t))
+          nothing (ap (λ (r : Answered (Result Message RecvError) Table). recv_number r.answer) q) (ap (λ (r : Answered (Result Message RecvError) Table). recv_values r.answer) q) (subst (λ (r : Answered (Result Message RecvError) Table). OnlyCounts t r.table) (sym q) (authority_only t))
       by (receives.empty k o e q) =
-          channel k (only.by receive_right k o) (ap received (ap (λ (r : Receiving). r.answer) q ∙ sym (ap oldest_of e))) (others k o)
+          channel k (only.by receive_right k o) (ap received (ap (λ (r : Answered (Result Message RecvError) Table). r.answer) q ∙ sym (ap oldest_of e))) (others k o)
       by (receives.received k m o a g) = channel k (only.by receive_right k o) (ap received (a ∙ sym (ap oldest_of g.queue))) (others k o)
 
   reach_park : (task : TaskId) → Reaches w n (park c task) (park_at t task)
@@ -127,7 +131,7 @@ module _ (w : World) (n : ℕ) (c : CapId) (σ : Sound w.table) (only : OpensOnl
           channel k (only.by receive_right k o) (ap parked (park_answers t c task k o)) (λ j ne. park_others t c task σ j (λ e. ne (one_opens e o)))
       by Shut o =
           let q = park_shut t c task o in
-          nothing (ap (λ (r : Parking). park_number r.answer) q) (ap (λ (r : Parking). park_values r.answer) q) (subst (λ (r : Parking). OnlyCounts t r.table) (sym q) (authority_only t))
+          nothing (ap (λ (r : Answered (Result (Option Message) ParkError) Table). park_number r.answer) q) (ap (λ (r : Answered (Result (Option Message) ParkError) Table). park_values r.answer) q) (subst (λ (r : Answered (Result (Option Message) ParkError) Table). OnlyCounts t r.table) (sym q) (authority_only t))
 
   reach_queued : Reaches w n (queued c) (queued_at t)
   unfolding answer after
@@ -143,7 +147,7 @@ module _ (w : World) (n : ℕ) (c : CapId) (σ : Sound w.table) (only : OpensOnl
     where
       by : revokes.RevokeWays t c (revoke_of t c) → Reaches w n (revoke c) (revoke_at t)
       by (revokes.bad_cap _ q) =
-          nothing (ap (λ (r : Revoking). revoke_number r.answer) q) (ap (λ (r : Revoking). revoke_values r.answer) q) (subst (λ (r : Revoking). OnlyCounts t r.table) (sym q) (authority_only t))
+          nothing (ap (λ (r : Answered (Result Waiter CapError) Table). revoke_number r.answer) q) (ap (λ (r : Answered (Result Waiter CapError) Table). revoke_values r.answer) q) (subst (λ (r : Answered (Result Waiter CapError) Table). OnlyCounts t r.table) (sym q) (authority_only t))
       by (revokes.revoked k o _ a x) = channel k (only.any k o) (ap revoked a) x.others
 
   reach_holders : Reaches w n (holders c) (holders_at t)

@@ -1,5 +1,6 @@
 -- An id that opens one channel or nothing, in the list of a register or a release: its slot's own step, and the whole call beside the one
 -- with that place vacant. Assumes nothing.
+use Rattle.std.specs.Prelude.{Ok, Result, ⊤}
 use mathlib.Core.Path.{◌≡◌, refl, sym, ap, ◌∙◌}
 use mathlib.Core.Bool.{true}
 use mathlib.Core.List.{List, [], ◌∷◌}
@@ -16,14 +17,12 @@ use Rattle.cap.specs.Slot.{vacant_slot}
 use Rattle.cap.specs.Word.{read_word, is_word, words_read, or_vacant, slot_at, slots_of}
 use Rattle.cap.specs.declared.CapId.{CapId}
 use Rattle.cap.specs.declared.slot.Slot.{Slot}
-use Rattle.cap.specs.declared.word.WordAnswer.TheVariants.{Reads}
 use Rattle.cap.proofs.Words.{reads_test, slots_at, slots_length}
 use Rattle.ipc_rules.specs.Sound.{Sound}
 use Rattle.ipc_rules.specs.Opening.{opened, hold_of}
 use Rattle.ipc_rules.specs.Holds.{registered, registered_all, released, released_all, release_of, Freed}
 use Rattle.ipc_rules.specs.Views.{waiter_of, hold_count, ephemeral_of, held_by, held_in, Alike, Steady}
 use Rattle.ipc_rules.specs.declared.state.Table.{Table}
-use Rattle.ipc_rules.specs.declared.answers.Registering.{Registering}
 use Rattle.ipc_rules.specs.declared.opening.Opening.{Opening}
 use Rattle.ipc_rules.specs.declared.opening.Opening.TheVariants.{Opens, Shut}
 use Rattle.ipc_rules.proofs.Changes.{alike_same}
@@ -38,6 +37,8 @@ use Rattle.history.specs.World.{World}
 use Rattle.history.specs.Channels.{LivesIn}
 use Rattle.history.specs.Reach.{Touches, untouched, touched, AlikeBut}
 use Rattle.history.specs.Ids.{OpensOnly}
+use Rattle.ipc_rules.specs.declared.answers.RegisterError.{RegisterError}
+use Rattle.shown.specs.declared.Answered.{Answered}
 
 -- the four slots of a release
 abbrev four : List Slot → List Slot
@@ -135,14 +136,14 @@ module _ (w : World) (n : ℕ) (c : CapId) (σ : Sound w.table) (only : OpensOnl
     vacant_none = refl
 
     -- a list of words, and of slots, with place i vacant
-    word_held : (words : List ℕ) (i : ℕ) (x : Slot) → read_word (get_or words i 0) ≡ Reads x → x.id ≡ c → (p : ℕ) →
+    word_held : (words : List ℕ) (i : ℕ) (x : Slot) → read_word (get_or words i 0) ≡ Ok x → x.id ≡ c → (p : ℕ) →
         held_by t j (slot_at (set words i 0) p) ≡ held_by t j (slot_at words p)
     unfolding or_vacant read_word pick
     word_held words i x r e p =
         all_reset (λ v. held_by t j (or_vacant (read_word v)) ≡ held_by t j (slot_at words p)) words i p 0
         (λ q. vacant_none ∙ sym (rw (q, r) (holds_none x e))) (λ _. refl)
 
-    words_held : (words : List ℕ) (i : ℕ) (x : Slot) → read_word (get_or words i 0) ≡ Reads x → x.id ≡ c → held_in t j (slots_of (set words i 0)) ≡ held_in t j (slots_of words)
+    words_held : (words : List ℕ) (i : ℕ) (x : Slot) → read_word (get_or words i 0) ≡ Ok x → x.id ≡ c → held_in t j (slots_of (set words i 0)) ≡ held_in t j (slots_of words)
     words_held words i x r e =
         held_places t j (slots_of (set words i 0)) (slots_of words) (slots_length (set words i 0) ∙ length-set words i 0 ∙ sym (slots_length words))
         (λ p. ap (held_by t j) (slots_at (set words i 0) p) ∙ word_held words i x r e p ∙ ap (held_by t j) (sym (slots_at words p)))
@@ -161,17 +162,17 @@ module _ (w : World) (n : ℕ) (c : CapId) (σ : Sound w.table) (only : OpensOnl
         omega arith
 
   -- the list reads with that place vacant where it reads
-  same_reads : (words : List ℕ) (i : ℕ) (x : Slot) → read_word (get_or words i 0) ≡ Reads x → words_read (set words i 0) ≡ words_read words
+  same_reads : (words : List ℕ) (i : ℕ) (x : Slot) → read_word (get_or words i 0) ≡ Ok x → words_read (set words i 0) ≡ words_read words
   same_reads words i x r = ap (every (λ p. is_word (get_or (set words i 0) p 0))) (length-set words i 0) ∙ (λ k. every (λ p. same p k) (length words))
     where
       same : (p : ℕ) → is_word (get_or (set words i 0) p 0) ≡ is_word (get_or words p 0)
       same p = all_reset (λ v. is_word v ≡ is_word (get_or words p 0)) words i p 0 (λ q. sym (rw q (reads_test (get_or words i 0) x r))) (λ _. refl)
 
-  pub alike_register : (words : List ℕ) (i : ℕ) (x : Slot) → read_word (get_or words i 0) ≡ Reads x → x.id ≡ c → AlikeBut w n (register words) (register (set words i 0))
+  pub alike_register : (words : List ℕ) (i : ℕ) (x : Slot) → read_word (get_or words i 0) ≡ Ok x → x.id ≡ c → AlikeBut w n (register words) (register (set words i 0))
   unfolding after
   alike_register words i x r e j away = by (register.register_call_ways t (set words i 0) σ) (register.register_call_ways t words σ)
     where
-      by : {u v : Registering} → register.RegisterCallWays t (set words i 0) u → register.RegisterCallWays t words v → Alike u.table v.table j
+      by : {u v : Answered (Result ⊤ RegisterError) Table} → register.RegisterCallWays t (set words i 0) u → register.RegisterCallWays t words v → Alike u.table v.table j
       by (register.bad_word _ p) (register.bad_word _ q) = rw (p, q) (alike_same t j)
       by (register.bad_word h _) (register.all f _ _) = absurd (not_both _ f (sym (same_reads words i x r) ∙ h))
       by (register.all f _ _) (register.bad_word h _) = absurd (not_both _ (sym (same_reads words i x r) ∙ f) h)

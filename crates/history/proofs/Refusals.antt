@@ -1,4 +1,5 @@
 -- What a refusal of a run changes, `refusals_count`, and what every call does to the counts, `counts_told`. Assumes nothing.
+use Rattle.std.specs.Prelude.{Err, Option, Result, ⊤}
 use mathlib.Core.Path.{◌≡◌, refl, sym, ap, subst, ◌∙◌}
 use mathlib.Core.Bool.{Bool, true}
 use mathlib.Core.List.{List}
@@ -25,13 +26,7 @@ use Rattle.ipc_rules.specs.Waiters.{clear_of}
 use Rattle.ipc_rules.specs.declared.state.Payload.{Payload}
 use Rattle.ipc_rules.specs.declared.state.TaskId.{TaskId}
 use Rattle.ipc_rules.specs.declared.state.Table.{Table}
-use Rattle.ipc_rules.specs.declared.answers.Creation.{Creation}
-use Rattle.ipc_rules.specs.declared.answers.Sending.{Sending}
-use Rattle.ipc_rules.specs.declared.answers.SendAnswer.TheVariants.{BadRow}
-use Rattle.ipc_rules.specs.declared.answers.Receiving.{Receiving}
-use Rattle.ipc_rules.specs.declared.answers.Parking.{Parking}
-use Rattle.ipc_rules.specs.declared.answers.Registering.{Registering}
-use Rattle.ipc_rules.specs.declared.answers.Revoking.{Revoking}
+use Rattle.ipc_rules.specs.declared.answers.SendError.TheVariants.{BadRow}
 use Rattle.ipc_rules.specs.declared.opening.Opening.{Opening}
 use Rattle.ipc_rules.specs.declared.opening.Opening.TheVariants.{Opens, Shut}
 use Rattle.ipc_rules.proofs.Looks.{queued_says, queued_refused, holders_says, holders_refused}
@@ -50,6 +45,16 @@ use Rattle.history.specs.World.{World, if_created, on_creation, settled, step}
 use Rattle.history.specs.Refusals.{listed, counts_after, Refused, RefusalsCount, CountsTold, RowsRefused}
 use Rattle.history.proofs.Kept.{step_table, reached_sound}
 use Rattle.history.proofs.Steps.{numbered}
+use Rattle.ipc_rules.specs.declared.state.Channel.{Channel}
+use Rattle.ipc_rules.specs.declared.answers.CreateError.{CreateError}
+use Rattle.shown.specs.declared.Answered.{Answered}
+use Rattle.ipc_rules.specs.declared.state.Waiter.{Waiter}
+use Rattle.ipc_rules.specs.declared.answers.SendError.{SendError}
+use Rattle.ipc_rules.specs.declared.state.Message.{Message}
+use Rattle.ipc_rules.specs.declared.answers.RecvError.{RecvError}
+use Rattle.ipc_rules.specs.declared.answers.ParkError.{ParkError}
+use Rattle.ipc_rules.specs.declared.answers.RegisterError.{RegisterError}
+use Rattle.ipc_rules.specs.declared.answers.CapError.{CapError}
 
 -- ---- by call: a refusal's number is listed, and its table is the one before but for the counts
 record Refuses (t : Table) (call : Call) (n : ℕ) (u : Table) : Type 0 where
@@ -62,7 +67,7 @@ module _ (t : Table) (σ : Sound t) where
   unfolding listed counts_after counts_by pick
   send_refuses c p row = by (sends.send_ways t c p row σ)
     where
-      by : {r : Sending} → sends.SendWays t c p row r → (send_number r.answer ≡ no.none → ⊥) → Refuses t (send c p row) (send_number r.answer) r.table
+      by : {r : Answered (Result Waiter SendError) Table} → sends.SendWays t c p row r → (send_number r.answer ≡ no.none → ⊥) → Refuses t (send c p row) (send_number r.answer) r.table
       by (sends.bad_row _ q) h = rw q (record { given = refl; only = refl })
       by (sends.bad_cap _ _ q) h = rw q (record { given = refl; only = refl })
       by (sends.full _ _ _ _ q) h = rw q (record { given = refl; only = refl })
@@ -72,7 +77,7 @@ module _ (t : Table) (σ : Sound t) where
   unfolding listed counts_after counts_by pick
   recv_refuses c = by (receives.recv_ways t c σ)
     where
-      by : {r : Receiving} → receives.RecvWays t c r → (recv_number r.answer ≡ no.none → ⊥) → Refuses t (receive c) (recv_number r.answer) r.table
+      by : {r : Answered (Result Message RecvError) Table} → receives.RecvWays t c r → (recv_number r.answer ≡ no.none → ⊥) → Refuses t (receive c) (recv_number r.answer) r.table
       by (receives.bad_cap _ q) h = rw q (record { given = refl; only = refl })
       by (receives.empty _ _ _ q) h = rw q (record { given = refl; only = refl })
       by (receives.received _ _ _ a _) h = absurd (h (ap recv_number a))
@@ -81,7 +86,7 @@ module _ (t : Table) (σ : Sound t) where
   unfolding listed counts_after counts_by pick
   park_refuses c task = by (parks.park_ways t c task σ)
     where
-      by : {r : Parking} → parks.ParkWays t c task r → (park_number r.answer ≡ no.none → ⊥) → Refuses t (park c task) (park_number r.answer) r.table
+      by : {r : Answered (Result (Option Message) ParkError) Table} → parks.ParkWays t c task r → (park_number r.answer ≡ no.none → ⊥) → Refuses t (park c task) (park_number r.answer) r.table
       by (parks.bad_cap _ q) h = rw q (record { given = refl; only = refl })
       by (parks.given _ _ _ a _) h = absurd (h (ap park_number a))
       by (parks.cancelled _ _ _ _ _ q) h = rw q (record { given = refl; only = refl })
@@ -92,7 +97,7 @@ module _ (t : Table) (σ : Sound t) where
   unfolding listed counts_after counts_by pick
   revoke_refuses c = by (revokes.revoke_ways t c σ)
     where
-      by : {r : Revoking} → revokes.RevokeWays t c r → (revoke_number r.answer ≡ no.none → ⊥) → Refuses t (revoke c) (revoke_number r.answer) r.table
+      by : {r : Answered (Result Waiter CapError) Table} → revokes.RevokeWays t c r → (revoke_number r.answer ≡ no.none → ⊥) → Refuses t (revoke c) (revoke_number r.answer) r.table
       by (revokes.bad_cap _ q) h = rw q (record { given = refl; only = refl })
       by (revokes.revoked _ _ _ a _) h = absurd (h (ap revoke_number a))
 
@@ -100,7 +105,7 @@ module _ (t : Table) (σ : Sound t) where
   unfolding listed counts_after counts_by pick
   register_refuses words = by (registers.register_call_ways t words σ)
     where
-      by : {r : Registering} → registers.RegisterCallWays t words r → (register_number r.answer ≡ no.none → ⊥) → Refuses t (register words) (register_number r.answer) r.table
+      by : {r : Answered (Result ⊤ RegisterError) Table} → registers.RegisterCallWays t words r → (register_number r.answer ≡ no.none → ⊥) → Refuses t (register words) (register_number r.answer) r.table
       by (registers.bad_word _ q) h = rw q (record { given = refl; only = refl })
       by (registers.all _ a _) h = absurd (h (ap register_number a))
 
@@ -128,8 +133,8 @@ create_refused : (w : World) (b : Bool) → Sound w.table → (create_number (cr
 unfolding step answer after on_creation if_created listed counts_after counts_by pick
 create_refused w b σ = by (creates.create_ways w.table b σ)
   where
-    same : (x : Creation) → create_of w.table b ≡ x → numbered w x ≡ settled w w.table → step w (create b) ≡ settled w w.table
-    same x q e = subst (λ (y : Creation). numbered w y ≡ settled w w.table) (sym q) e
+    same : (x : Answered (Result Channel CreateError) Table) → create_of w.table b ≡ x → numbered w x ≡ settled w w.table → step w (create b) ≡ settled w w.table
+    same x q e = subst (λ (y : Answered (Result Channel CreateError) Table). numbered w y ≡ settled w w.table) (sym q) e
 
     by : creates.CreateWays w.table b (create_of w.table b) → (create_number (create_of w.table b).answer ≡ no.none → ⊥) → Refused w (create b) (create_number (create_of w.table b).answer)
     by (creates.no_mailbox _ q) h = rw q (record { given = refl; only = same _ q refl })
@@ -157,7 +162,7 @@ create_counts : (t : Table) (b : Bool) → Sound t → (create_of t b).table.cou
 unfolding counts_by pick
 create_counts t b σ = by (creates.create_ways t b σ)
   where
-    by : {r : Creation} → creates.CreateWays t b r → r.table.counters.refusals ≡ counts_by (create_number r.answer) t.counters.refusals
+    by : {r : Answered (Result Channel CreateError) Table} → creates.CreateWays t b r → r.table.counters.refusals ≡ counts_by (create_number r.answer) t.counters.refusals
     by (creates.no_mailbox _ q) = rw q
     by (creates.no_endpoint _ _ _ q) = rw q
     by (creates.created _ _ _ x) = rw x.answer x.counts
@@ -166,7 +171,7 @@ register_counts : (t : Table) (words : List ℕ) → Sound t → (register_of t 
 unfolding counts_by pick
 register_counts t words σ = by (registers.register_call_ways t words σ)
   where
-    by : {r : Registering} → registers.RegisterCallWays t words r → r.table.counters.refusals ≡ counts_by (register_number r.answer) t.counters.refusals
+    by : {r : Answered (Result ⊤ RegisterError) Table} → registers.RegisterCallWays t words r → r.table.counters.refusals ≡ counts_by (register_number r.answer) t.counters.refusals
     by (registers.bad_word _ q) = rw q
     by (registers.all _ a x) = rw a x.counts
 
@@ -190,13 +195,13 @@ pub counts_told : CountsTold
 counts_told w reached call = ap (λ (u : Table). u.counters.refusals) (step_table w call) ∙ after_counts w.table call (reached_sound reached)
 
 -- ---- a row from 54 up
-row_refused : (t : Table) (c : CapId) (p : Payload) (row : ℕ) → 54 ≤ row → send_of t c p row ≡ record { answer = BadRow; table = t }
+row_refused : (t : Table) (c : CapId) (p : Payload) (row : ℕ) → 54 ≤ row → send_of t c p row ≡ record { answer = Err BadRow; table = t }
 unfolding send_of pick
 row_refused t c p row h = rw (le-leb 54 row h)
 
 pub rows_refused : RowsRefused
 unfolding answer after
 rows_refused t c p row = (
-  λ h. record { answers = ap (λ (r : Sending). sent r.answer) (row_refused t c p row h); leaves = ap (λ (r : Sending). r.table) (row_refused t c p row h) },
+  λ h. record { answers = ap (λ (r : Answered (Result Waiter SendError) Table). sent r.answer) (row_refused t c p row h); leaves = ap (λ (r : Answered (Result Waiter SendError) Table). r.table) (row_refused t c p row h) },
   λ e. ⊎_elim (λ l. absurd (sends.row_passes t c p row l (ap number_of e))) (λ h. h) (below? row 54),
 )

@@ -1,5 +1,6 @@
 -- A message, and with it a stamp, is made by an accepted send and by no other call: `only_sends`; so what is given was sent: `each_was_sent`.
 -- Assumes nothing.
+use Rattle.std.specs.Prelude.{Err, Ok, Result}
 use mathlib.Core.Path.{◌≡◌, refl, sym, ap, subst, ◌∙◌}
 use mathlib.Core.Bool.{Bool, true, false}
 use mathlib.Core.List.Memᴰ
@@ -19,8 +20,7 @@ use Rattle.ipc_rules.specs.Views.{queue_of}
 use Rattle.ipc_rules.specs.declared.state.Mailbox.{Mailbox}
 use Rattle.ipc_rules.specs.declared.state.Message.{Message}
 use Rattle.ipc_rules.specs.declared.state.Waiter.{Waiter}
-use Rattle.ipc_rules.specs.declared.answers.SendAnswer.{SendAnswer}
-use Rattle.ipc_rules.specs.declared.answers.SendAnswer.TheVariants.{Sent, BadRow, BadCap, Full, BadTable}
+use Rattle.ipc_rules.specs.declared.answers.SendError.TheVariants.{BadRow, BadCap, Full, BadTable}
 use Rattle.ipc_rules.proofs.Openings.{opens_live}
 use Rattle.ipc_rules.proofs.AfterNew.{fresh_box}
 use Rattle.ipc_rules.proofs.AfterSend.{sent_room}
@@ -37,23 +37,24 @@ use Rattle.history.proofs.Leading.{leads_to}
 use Rattle.history.proofs.Turns.{turn}
 use Rattle.history.proofs.Givings.{only_gives}
 use Rattle.history.proofs.Gone.{revoked_gone}
+use Rattle.ipc_rules.specs.declared.answers.SendError.{SendError}
 
 -- ---- what a call has accepted
 -- x, where the answer was Sent
-pub record Put (b : Bool) (a : SendAnswer) (x m : Message) : Type 0 where
+pub record Put (b : Bool) (a : Result Waiter SendError) (x m : Message) : Type 0 where
   pub waiter : Waiter
-  pub answers : a ≡ Sent waiter
+  pub answers : a ≡ Ok waiter
   pub all : pick b (if_sent a x) [] ≡ x ∷ []
   pub is : m ≡ x
 
-pub put : (b : Bool) (a : SendAnswer) (x m : Message) → Memᴰ m (pick b (if_sent a x) []) → Put b a x m
+pub put : (b : Bool) (a : Result Waiter SendError) (x m : Message) → Memᴰ m (pick b (if_sent a x) []) → Put b a x m
 unfolding pick if_sent
 put false a x m i = absurd (Memᴰ.not-nil i)
-put true (Sent w) x m i = record { waiter = w; answers = refl; all = refl; is = Memᴰ.eq_of_singleton i }
-put true BadRow x m i = absurd (Memᴰ.not-nil i)
-put true BadCap x m i = absurd (Memᴰ.not-nil i)
-put true Full x m i = absurd (Memᴰ.not-nil i)
-put true BadTable x m i = absurd (Memᴰ.not-nil i)
+put true (Ok w) x m i = record { waiter = w; answers = refl; all = refl; is = Memᴰ.eq_of_singleton i }
+put true (Err BadRow) x m i = absurd (Memᴰ.not-nil i)
+put true (Err BadCap) x m i = absurd (Memᴰ.not-nil i)
+put true (Err Full) x m i = absurd (Memᴰ.not-nil i)
+put true (Err BadTable) x m i = absurd (Memᴰ.not-nil i)
 
 stamps : (w : World) → Sound w.table → (n : ℕ) (m : Message) (c : Call) → Memᴰ m (accepted w n c) → Stamps w n m c
 unfolding accepted

@@ -1,5 +1,6 @@
 -- A mailbox with both its ids, as a call finds it and as the call leaves it: `Stands`, and for send, receive, park and register what they
 -- answer there. Assumes nothing.
+use Rattle.std.specs.Prelude.{None, Ok, Some}
 use mathlib.Core.Path.{◌≡◌, sym, ap, ◌∙◌}
 use mathlib.Core.Bool.{Bool, true, false}
 use mathlib.Core.List.{List, [], ◌∷◌, ◌++◌}
@@ -26,10 +27,6 @@ use Rattle.ipc_rules.specs.declared.state.Payload.{Payload}
 use Rattle.ipc_rules.specs.declared.state.TaskId.{TaskId}
 use Rattle.ipc_rules.specs.declared.state.Waiter.{Waiter}
 use Rattle.ipc_rules.specs.declared.state.Table.{Table}
-use Rattle.ipc_rules.specs.declared.answers.SendAnswer.TheVariants.{Sent}
-use Rattle.ipc_rules.specs.declared.answers.RecvAnswer.TheVariants.{Received}
-use Rattle.ipc_rules.specs.declared.answers.ParkAnswer.TheVariants.{Parked, Given}
-use Rattle.ipc_rules.specs.declared.answers.RegisterAnswer.TheVariants.{Registered}
 use Rattle.ipc_rules.specs.declared.opening.Opening.TheVariants.{Opens}
 use Rattle.ipc_rules.proofs.Held.{held_one}
 use Rattle.ipc_rules.proofs.KeepsCalls.{send_kept, recv_kept, park_kept}
@@ -67,12 +64,12 @@ module _ {t : Table} {k : ℕ} {ids : Channel} {b : Bool} {n : ℕ} where
 
   -- ---- send
   pub send_stands : {x : Waiter} (p : Payload) (row : ℕ) → row < 54 → Stands t k ids b n [] x →
-      ((send_of t ids.send p row).answer ≡ Sent x) × Stands (send_of t ids.send p row).table k ids b n (stamped p row ∷ []) nobody
+      ((send_of t ids.send p row).answer ≡ Ok x) × Stands (send_of t ids.send p row).table k ids b n (stamped p row ∷ []) nobody
   send_stands p row sender s =
       let d = s.sound.sizes.deep in
       let y = send_accepts t ids.send p row s.sound sender (record { box = k; opens = s.sends; below = rw s.queue d }) in
       let q = y.queue ∙ ap (λ (q : List Message). q ++ (stamped p row ∷ [])) s.queue in
-      (y.answer ∙ ap Sent s.waiter, still s (send_kept t ids.send p row s.sound) y.rest.steady y.ephemeral (y.holds ∙ s.holds) q y.waiter)
+      (y.answer ∙ ap Ok s.waiter, still s (send_kept t ids.send p row s.sound) y.rest.steady y.ephemeral (y.holds ∙ s.holds) q y.waiter)
 
   -- ---- receive, and park, where one message is queued
   gives_stands : {x : Waiter} {m m' : Message} {u : Table} → Sound u → Stands t k ids b n (m ∷ []) x → receives.Gives t k m' u → (m' ≡ m) × Stands u k ids b n [] x
@@ -82,47 +79,47 @@ module _ {t : Table} {k : ℕ} {ids : Channel} {b : Bool} {n : ℕ} where
       ((cc), still s σ g.rest.steady g.ephemeral (g.holds ∙ s.holds) none (g.waiter ∙ s.waiter))
 
   pub recv_stands : {x : Waiter} {m : Message} → Stands t k ids b n (m ∷ []) x →
-      ((recv_of t ids.recv).answer ≡ Received m) × Stands (recv_of t ids.recv).table k ids b n [] x
+      ((recv_of t ids.recv).answer ≡ Ok m) × Stands (recv_of t ids.recv).table k ids b n [] x
   recv_stands {x} {m} s = by (receives.recv_ways t ids.recv s.sound)
     where
-      by : receives.RecvWays t ids.recv (recv_of t ids.recv) → ((recv_of t ids.recv).answer ≡ Received m) × Stands (recv_of t ids.recv).table k ids b n [] x
+      by : receives.RecvWays t ids.recv (recv_of t ids.recv) → ((recv_of t ids.recv).answer ≡ Ok m) × Stands (recv_of t ids.recv).table k ids b n [] x
       by (receives.bad_cap o _) = let e = s.receives in let z : ◌≡◌ {A = ℕ} 0 1 = cc in absurd (omega arith)
       by (receives.empty j o q _) = let e = s.receives in let h : j ≡ k = cc in let f = s.queue in let z : ◌≡◌ {A = ℕ} 0 1 = cc in absurd (omega arith)
       by (receives.received j m' o a g) =
           let e = s.receives in
           let h : j ≡ k = cc in
           let y = gives_stands (recv_kept t ids.recv s.sound) s (rw h at g) in
-          (a ∙ ap Received y.0, y.1)
+          (a ∙ ap Ok y.0, y.1)
 
   pub given_stands : {x : Waiter} {m : Message} (task : TaskId) → Stands t k ids b n (m ∷ []) x →
-      ((park_of t ids.recv task).answer ≡ Given m) × Stands (park_of t ids.recv task).table k ids b n [] x
+      ((park_of t ids.recv task).answer ≡ Ok (Some m)) × Stands (park_of t ids.recv task).table k ids b n [] x
   given_stands {x} {m} task s = by (parks.park_ways t ids.recv task s.sound)
     where
       some : {A : Type 0} (j : ℕ) → opening_of t ids.recv receive_right ≡ Opens j → queue_of t j ≡ [] → A
       some j o q = let e = s.receives in let h : j ≡ k = cc in let f = s.queue in let z : ◌≡◌ {A = ℕ} 0 1 = cc in absurd (omega arith)
 
       by : parks.ParkWays t ids.recv task (park_of t ids.recv task) →
-          ((park_of t ids.recv task).answer ≡ Given m) × Stands (park_of t ids.recv task).table k ids b n [] x
+          ((park_of t ids.recv task).answer ≡ Ok (Some m)) × Stands (park_of t ids.recv task).table k ids b n [] x
       by (parks.bad_cap o _) = let e = s.receives in let z : ◌≡◌ {A = ℕ} 0 1 = cc in absurd (omega arith)
       by (parks.given j m' o a g) =
           let e = s.receives in
           let h : j ≡ k = cc in
           let y = gives_stands (park_kept t ids.recv task s.sound) s (rw h at g) in
-          (a ∙ ap Given y.0, y.1)
+          (a ∙ ap (λ (v : Message). Ok (Some v)) y.0, y.1)
       by (parks.cancelled j o q _ _ _) = some j o q
       by (parks.busy j o w _ _ _) = some j o w.empty
       by (parks.parked j o w _ _) = some j o w.empty
 
   -- ---- park, where nothing is queued and nobody waits, and where the mailbox is ephemeral a hold is left
   pub park_stands : (task : TaskId) → (b ≡ true → 0 < n) → Stands t k ids b n [] nobody →
-      ((park_of t ids.recv task).answer ≡ Parked) × Stands (park_of t ids.recv task).table k ids b n [] (waiting task)
+      ((park_of t ids.recv task).answer ≡ Ok None) × Stands (park_of t ids.recv task).table k ids b n [] (waiting task)
   park_stands task held s = by (parks.park_ways t ids.recv task s.sound)
     where
       at : (j : ℕ) → opening_of t ids.recv receive_right ≡ Opens j → j ≡ k
       at j o = let e = s.receives in cc
 
       by : parks.ParkWays t ids.recv task (park_of t ids.recv task) →
-          ((park_of t ids.recv task).answer ≡ Parked) × Stands (park_of t ids.recv task).table k ids b n [] (waiting task)
+          ((park_of t ids.recv task).answer ≡ Ok None) × Stands (park_of t ids.recv task).table k ids b n [] (waiting task)
       by (parks.bad_cap o _) = let e = s.receives in let z : ◌≡◌ {A = ℕ} 0 1 = cc in absurd (omega arith)
       by (parks.given j m o _ g) = let h = at j o in let f = s.queue in let q = g.queue in let z : ◌≡◌ {A = ℕ} 0 1 = cc in absurd (omega arith)
       by (parks.cancelled j o _ e z _) =
@@ -158,12 +155,12 @@ module _ (t : Table) (k : ℕ) (ids : Channel) (b : Bool) (small : ids.send.raw 
   unfolding raised_by raised pick
   raised_once = rw (once, s.holds)
 
-  pub register_stands : ((register_of t (word ∷ [])).answer ≡ Registered) × Stands (register_of t (word ∷ [])).table k ids b 1 [] nobody
+  pub register_stands : ((register_of t (word ∷ [])).answer ≡ Ok tt) × Stands (register_of t (word ∷ [])).table k ids b 1 [] nobody
   unfolding after
   register_stands = by (registers.register_call_ways t (word ∷ []) s.sound)
     where
       by : registers.RegisterCallWays t (word ∷ []) (register_of t (word ∷ [])) →
-          ((register_of t (word ∷ [])).answer ≡ Registered) × Stands (register_of t (word ∷ [])).table k ids b 1 [] nobody
+          ((register_of t (word ∷ [])).answer ≡ Ok tt) × Stands (register_of t (word ∷ [])).table k ids b 1 [] nobody
       by (registers.bad_word h _) = absurd (not_both _ reads h)
       by (registers.all _ a y) =
           let x = y.mailboxes k in

@@ -1,4 +1,5 @@
 -- The state count over a run, `state_count_told`, and as operation 27 of a log shows it, `state_count_shown`. Assumes nothing.
+use Rattle.std.specs.Prelude.{Err, Ok, Result}
 use mathlib.Core.Path.{◌≡◌, refl, sym, ap, ◌∙◌}
 use mathlib.Core.Bool.{Bool, true, false, ◌&&◌, ◌||◌, not}
 use mathlib.Core.List.{List, [], ◌∷◌, ◌++◌}
@@ -19,8 +20,7 @@ use Rattle.ipc_rules.specs.Observe.{queued_of, holders_of}
 use Rattle.ipc_rules.specs.Views.{counts_by, raised_by}
 use Rattle.ipc_rules.specs.declared.state.Refusals.{Refusals}
 use Rattle.ipc_rules.specs.declared.state.Table.{Table}
-use Rattle.ipc_rules.specs.declared.answers.QueuedAnswer as queuing
-use Rattle.ipc_rules.specs.declared.answers.HoldersAnswer as holding
+use Rattle.ipc_rules.specs.declared.answers.CapError.TheVariants as cap_error
 use Rattle.ipc_rules.proofs.Held.{raised_then}
 use Rattle.operations.specs.Apply.{all_done, unknown_done, apply_of}
 use Rattle.operations.specs.Channels.{park_done, note_state_done, counts_done}
@@ -38,6 +38,7 @@ use Rattle.history.proofs.Kept.{step_table, step_sound, reached_sound}
 use Rattle.history.proofs.Refusals.{refusals_count, after_counts}
 use Rattle.history.proofs.Along.{Along, end, ◌▸◌, along_all}
 use Rattle.history.proofs.Operations.{goes_on, operations_follow, operated_follow, operations_run, logs_follow}
+use Rattle.ipc_rules.specs.declared.answers.CapError.{CapError}
 
 -- ---- by call: the state count after it, by its answer's number
 -- whatever the number: Busy raises the state count, and no other number does
@@ -52,15 +53,15 @@ by_number n x = by (eqb n no.bad_cap) (eqb n no.full) (eqb n no.busy) refl refl 
     by false false false p q r = rw (p, q, r)
 
 -- the calls that look are never Busy
-queued_calm : (a : queuing.QueuedAnswer) → eqb (queued_number a) no.busy ≡ false
-queued_calm (queuing.TheVariants.Queued n) = refl
-queued_calm queuing.TheVariants.BadCap = refl
-queued_calm queuing.TheVariants.BadTable = refl
+queued_calm : (a : Result ℕ CapError) → eqb (queued_number a) no.busy ≡ false
+queued_calm (Ok n) = refl
+queued_calm (Err cap_error.BadCap) = refl
+queued_calm (Err cap_error.BadTable) = refl
 
-holders_calm : (a : holding.HoldersAnswer) → eqb (holders_number a) no.busy ≡ false
-holders_calm (holding.TheVariants.Holders n) = refl
-holders_calm holding.TheVariants.BadCap = refl
-holders_calm holding.TheVariants.BadTable = refl
+holders_calm : (a : Result ℕ CapError) → eqb (holders_number a) no.busy ≡ false
+holders_calm (Ok n) = refl
+holders_calm (Err cap_error.BadCap) = refl
+holders_calm (Err cap_error.BadTable) = refl
 
 by_call : (w : World) (c : Call) (x : Refusals) → (counts_after c (number_of (answer w.table c)) x).state ≡ raised_by (state_refusal c (number_of (answer w.table c))) x.state
 unfolding answer counts_after counts_by state_refusal notes_state raised_by pick

@@ -1,4 +1,5 @@
 -- A step makes a channel, or it settles with a table in which no more ids open. Assumes nothing.
+use Rattle.std.specs.Prelude.{Result, ⊤}
 use mathlib.Core.Path.{◌≡◌, refl, sym, subst}
 use mathlib.Core.Bool.{Bool}
 use mathlib.Core.List.{List}
@@ -17,9 +18,6 @@ use Rattle.ipc_rules.specs.Holds.{register_of, release_of}
 use Rattle.ipc_rules.specs.Revoke.{revoke_of}
 use Rattle.ipc_rules.specs.Views.{Steady}
 use Rattle.ipc_rules.specs.declared.state.Table.{Table}
-use Rattle.ipc_rules.specs.declared.answers.Creation.{Creation}
-use Rattle.ipc_rules.specs.declared.answers.Registering.{Registering}
-use Rattle.ipc_rules.specs.declared.answers.Revoking.{Revoking}
 use Rattle.ipc_rules.proofs.Openings.{opened_of}
 use Rattle.ipc_rules.proofs.Changes.{steady_same}
 use Rattle.ipc_rules.proofs.AfterSend.{send_steady}
@@ -34,6 +32,12 @@ use Rattle.ipc_rules.proofs.AfterCreate.{Creates, CreateWays, no_mailbox, no_end
 use Rattle.history.specs.Calls.{Call, create, send, receive, park, queued, revoke, register, release, holders, clear, note_authority, note_state, counts, four_slots, answer, after}
 use Rattle.history.specs.World.{World, but, if_created, on_creation, settled, born, step}
 use Rattle.history.proofs.Shrinks.{Shrinks, steady_shrinks}
+use Rattle.ipc_rules.specs.declared.state.Channel.{Channel}
+use Rattle.ipc_rules.specs.declared.answers.CreateError.{CreateError}
+use Rattle.shown.specs.declared.Answered.{Answered}
+use Rattle.ipc_rules.specs.declared.answers.RegisterError.{RegisterError}
+use Rattle.ipc_rules.specs.declared.state.Waiter.{Waiter}
+use Rattle.ipc_rules.specs.declared.answers.CapError.{CapError}
 
 -- the creation makes a channel in mailbox k, with its ends at endpoints s and r, and v is the world with it
 pub record Births (w : World) (b : Bool) (k s r : ℕ) (v : World) : Type 0 where
@@ -64,7 +68,7 @@ module _ (w : World) (b : Bool) (k s r : ℕ) (x : Creates w.table b k s r (crea
   born_births = record { makes = x; table = refl; made = refl; tenant = rw (named, eq-eqb k k refl); others = λ j ne. rw (named, ne_eqb j k ne) }
 
 -- what a creation makes of a world
-abbrev pub numbered : World → Creation → World
+abbrev pub numbered : World → Answered (Result Channel CreateError) Table → World
 numbered w x = if_created x.answer (settled w x.table) (λ ids. born w x.table ids.send)
 
 -- a creation that succeeds
@@ -76,8 +80,8 @@ create_step : (w : World) (b : Bool) → Sound w.table → StepWays w (create b)
 unfolding step answer after on_creation if_created
 create_step w b σ = by (create_ways w.table b σ)
   where
-    same : (x : Creation) → create_of w.table b ≡ x → Shrinks w.table x.table → numbered w x ≡ settled w x.table → StepWays w (create b) (step w (create b))
-    same x q h e = settles (subst (λ (y : Creation). Shrinks w.table y.table) (sym q) h) (subst (λ (y : Creation). numbered w y ≡ settled w y.table) (sym q) e)
+    same : (x : Answered (Result Channel CreateError) Table) → create_of w.table b ≡ x → Shrinks w.table x.table → numbered w x ≡ settled w x.table → StepWays w (create b) (step w (create b))
+    same x q h e = settles (subst (λ (y : Answered (Result Channel CreateError) Table). Shrinks w.table y.table) (sym q) h) (subst (λ (y : Answered (Result Channel CreateError) Table). numbered w y ≡ settled w y.table) (sym q) e)
 
     by : CreateWays w.table b (create_of w.table b) → StepWays w (create b) (step w (create b))
     by (no_mailbox _ q) = same _ q (unchanged w.table) refl
@@ -87,13 +91,13 @@ create_step w b σ = by (create_ways w.table b σ)
 -- ---- every call
 register_steady : (t : Table) (words : List ℕ) → Sound t → Steady t (register_of t words).table
 unfolding register_of
-register_steady t words s = all_pick (λ (r : Registering). Steady t r.table) _ _ _ (λ _. (registered_in t (slots_of words) s).steady) (λ _. steady_same t)
+register_steady t words s = all_pick (λ (r : Answered (Result ⊤ RegisterError) Table). Steady t r.table) _ _ _ (λ _. (registered_in t (slots_of words) s).steady) (λ _. steady_same t)
 
 -- a revocation shuts the ids of one mailbox, which dies
 revoke_shrinks : (t : Table) (c : CapId) → Sound t → Shrinks t (revoke_of t c).table
 revoke_shrinks t c s = by (revoke_ways t c s)
   where
-    by : {r : Revoking} → RevokeWays t c r → Shrinks t r.table
+    by : {r : Answered (Result Waiter CapError) Table} → RevokeWays t c r → Shrinks t r.table
     by (bad_cap _ q) = rw q (steady_shrinks t _ (authority_only t).steady)
     by (revoked k _ _ _ x) =
         record {

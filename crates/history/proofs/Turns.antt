@@ -1,5 +1,6 @@
 -- What one call does to a channel that it does not revoke: the channel stays where it lives, of the kind it was, and what the call gives
 -- and then what waits is what waited and then what the call accepted. Assumes nothing.
+use Rattle.std.specs.Prelude.{Option, Result, ⊤}
 use mathlib.Core.Path.{◌≡◌, refl, sym, ap, ◌∙◌}
 use mathlib.Core.Bool.{Bool, true, false}
 use mathlib.Core.List.{List, [], ◌∷◌, ◌++◌, append-nil}
@@ -20,10 +21,6 @@ use Rattle.ipc_rules.specs.declared.state.Message.{Message}
 use Rattle.ipc_rules.specs.declared.state.Payload.{Payload}
 use Rattle.ipc_rules.specs.declared.state.TaskId.{TaskId}
 use Rattle.ipc_rules.specs.declared.state.Table.{Table}
-use Rattle.ipc_rules.specs.declared.answers.Sending.{Sending}
-use Rattle.ipc_rules.specs.declared.answers.Receiving.{Receiving}
-use Rattle.ipc_rules.specs.declared.answers.Parking.{Parking}
-use Rattle.ipc_rules.specs.declared.answers.Registering.{Registering}
 use Rattle.ipc_rules.specs.declared.opening.Opening.TheVariants.{Opens}
 use Rattle.ipc_rules.proofs.Openings.{opens_live}
 use Rattle.ipc_rules.proofs.Changes.{alike_same}
@@ -43,6 +40,12 @@ use Rattle.history.specs.Traffic.{if_sent, by_receive, by_park, accepted, given,
 use Rattle.history.proofs.Kept.{step_table}
 use Rattle.history.proofs.Steps.{StepWays, settles, births, step_ways}
 use Rattle.history.proofs.Tidy.{Tidy}
+use Rattle.ipc_rules.specs.declared.state.Waiter.{Waiter}
+use Rattle.ipc_rules.specs.declared.answers.SendError.{SendError}
+use Rattle.shown.specs.declared.Answered.{Answered}
+use Rattle.ipc_rules.specs.declared.answers.RecvError.{RecvError}
+use Rattle.ipc_rules.specs.declared.answers.ParkError.{ParkError}
+use Rattle.ipc_rules.specs.declared.answers.RegisterError.{RegisterError}
 
 pub record Turn (w v : World) (n k : ℕ) (out inn : List Message) : Type 0 where
   pub lives : LivesIn v n k
@@ -77,7 +80,7 @@ module _ (w : World) (τ : Tidy w) (n k : ℕ) (h : LivesIn w n k) where
   none_out b u x = rw (pick_same {A = List Message} b []) x
 
   -- ---- send
-  sends : (c : CapId) (p : Payload) (row : ℕ) {r : Sending} → after-send.SendWays t c p row r →
+  sends : (c : CapId) (p : Payload) (row : ℕ) {r : Answered (Result Waiter SendError) Table} → after-send.SendWays t c p row r →
       Turn w (settled w r.table) n k [] (pick (on w n c send_right) (if_sent r.answer (stamped p row)) [])
   unfolding leads opened if_sent
   sends c p row (after-send.bad_row _ q) = rw q (none_in (on w n c send_right) _ (alike _ (alike_same t k)))
@@ -99,13 +102,13 @@ module _ (w : World) (τ : Tidy w) (n k : ℕ) (h : LivesIn w n k) where
       record { lives = record { live = rw i at g.live ∙ h.live; tenant = h.tenant }; kind = rw i at g.ephemeral; order = sym q ∙ sym (append-nil _) })
       (λ e. alike u (g.rest.others k (elsewhere j e)))
 
-  receives : (c : CapId) {r : Receiving} → after-recv.RecvWays t c r → Turn w (settled w r.table) n k (pick (on w n c receive_right) (by_receive r.answer) []) []
+  receives : (c : CapId) {r : Answered (Result Message RecvError) Table} → after-recv.RecvWays t c r → Turn w (settled w r.table) n k (pick (on w n c receive_right) (by_receive r.answer) []) []
   unfolding leads opened by_receive
   receives c (after-recv.bad_cap _ q) = rw q (none_out (on w n c receive_right) _ (alike _ ((authority_only t).mailboxes k)))
   receives c (after-recv.empty _ _ _ q) = rw q (none_out (on w n c receive_right) _ (alike _ (alike_same t k)))
   receives c {r} (after-recv.received j m o a g) = rw (o, a) (gives j m r.table (opens_live t c receive_right j τ.sound o) g)
 
-  parks : (c : CapId) (task : TaskId) {r : Parking} → after-park.ParkWays t c task r → Turn w (settled w r.table) n k (pick (on w n c receive_right) (by_park r.answer) []) []
+  parks : (c : CapId) (task : TaskId) {r : Answered (Result (Option Message) ParkError) Table} → after-park.ParkWays t c task r → Turn w (settled w r.table) n k (pick (on w n c receive_right) (by_park r.answer) []) []
   unfolding leads opened by_park
   parks c task (after-park.bad_cap _ q) = rw q (none_out (on w n c receive_right) _ (alike _ ((authority_only t).mailboxes k)))
   parks c task {r} (after-park.given j m o a g) = rw (o, a) (gives j m r.table (opens_live t c receive_right j τ.sound o) g)
@@ -117,7 +120,7 @@ module _ (w : World) (τ : Tidy w) (n k : ℕ) (h : LivesIn w n k) where
       (⊎_elim (λ e. stays r.table (rw e p.live) (rw e p.ephemeral) (rw e p.queue)) (λ ne. alike r.table (p.rest.others k ne)) (same? k j)))
 
   -- ---- register and revoke
-  registers : (words : List ℕ) {r : Registering} → after-register.RegisterCallWays t words r → Turn w (settled w r.table) n k [] []
+  registers : (words : List ℕ) {r : Answered (Result ⊤ RegisterError) Table} → after-register.RegisterCallWays t words r → Turn w (settled w r.table) n k [] []
   registers words (after-register.bad_word _ q) = rw q (alike t (alike_same t k))
   registers words {r} (after-register.all _ _ x) = let a = x.mailboxes k in stays r.table a.live a.ephemeral a.queue
 

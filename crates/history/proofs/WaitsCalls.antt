@@ -1,4 +1,5 @@
 -- What each call does to a task that waits: it waits on, or it is named or cleared and waits no more. Assumes nothing.
+use Rattle.std.specs.Prelude.{Ok, Option, Result, ⊤}
 use mathlib.Core.Path.{◌≡◌, refl, sym, ap, subst, ◌∙◌}
 use mathlib.Core.Bool.{Bool, true, false, ◌&&◌}
 use mathlib.Core.List.{List, []}
@@ -26,14 +27,6 @@ use Rattle.ipc_rules.specs.declared.state.Payload.{Payload}
 use Rattle.ipc_rules.specs.declared.state.TaskId.{TaskId}
 use Rattle.ipc_rules.specs.declared.state.Waiter.{Waiter}
 use Rattle.ipc_rules.specs.declared.state.Table.{Table}
-use Rattle.ipc_rules.specs.declared.answers.Sending.{Sending}
-use Rattle.ipc_rules.specs.declared.answers.SendAnswer.TheVariants.{Sent}
-use Rattle.ipc_rules.specs.declared.answers.Receiving.{Receiving}
-use Rattle.ipc_rules.specs.declared.answers.Parking.{Parking}
-use Rattle.ipc_rules.specs.declared.answers.Registering.{Registering}
-use Rattle.ipc_rules.specs.declared.answers.ReleaseAnswer.TheVariants.{Released}
-use Rattle.ipc_rules.specs.declared.answers.Revoking.{Revoking}
-use Rattle.ipc_rules.specs.declared.answers.RevokeAnswer.TheVariants.{Revoked}
 use Rattle.ipc_rules.specs.declared.opening.Opening.TheVariants.{Opens, Shut}
 use Rattle.ipc_rules.proofs.Openings.{opens_live}
 use Rattle.ipc_rules.proofs.Tasks.{same_task_lem, task_same}
@@ -54,6 +47,13 @@ use Rattle.history.specs.Channels.{leads, on, on_any}
 use Rattle.history.specs.Waits.{Waits, ends, turn_of, Names, by_send, by_revocation, by_release, Clears, clears}
 use Rattle.history.proofs.Tidy.{Tidy}
 use Rattle.history.proofs.WaitsTurn.{release_turn}
+use Rattle.ipc_rules.specs.declared.answers.SendError.{SendError}
+use Rattle.shown.specs.declared.Answered.{Answered}
+use Rattle.ipc_rules.specs.declared.state.Message.{Message}
+use Rattle.ipc_rules.specs.declared.answers.RecvError.{RecvError}
+use Rattle.ipc_rules.specs.declared.answers.ParkError.{ParkError}
+use Rattle.ipc_rules.specs.declared.answers.RegisterError.{RegisterError}
+use Rattle.ipc_rules.specs.declared.answers.CapError.{CapError}
 
 -- mailbox k in the tables before and after a call: it lives on with its waiter, or nobody waits there and A holds
 pub data Outcome (t u : Table) (k : ℕ) (A : Type 0) : Bool → Type 0 where
@@ -100,20 +100,20 @@ module _ (w : World) (τ : Tidy w) (n k : ℕ) (x : TaskId) (h : Waits w n k x) 
   was j e = ap (waiter_of t) (sym e) ∙ h.waiter
 
   -- ---- send
-  send_out : (c : CapId) (p : Payload) (row : ℕ) (r : Sending) → send.SendWays t c p row r → Outcome t r.table k (r.answer ≡ Sent (waiting x)) (on w n c send_right && eqb (send_number r.answer) no.none)
+  send_out : (c : CapId) (p : Payload) (row : ℕ) (r : Answered (Result Waiter SendError) Table) → send.SendWays t c p row r → Outcome t r.table k (r.answer ≡ Ok (waiting x)) (on w n c send_right && eqb (send_number r.answer) no.none)
   send_out c p row r (send.bad_row _ q) = rw (q, refused (on w n c send_right)) (alike_stays (alike_same t k))
   send_out c p row r (send.bad_cap _ o q) = rw (o, q, nowhere) (alike_stays ((authority_only t).mailboxes k))
   send_out c p row r (send.full _ j o e q) = rw (q, refused (on w n c send_right)) (alike_stays ((full_only t).mailboxes k))
   send_out c p row r (send.sent _ a y) =
-      ⊎_elim (λ e. rw (a.opens, ← e, here, y.answer) (gone (rw e y.waiter) (ap Sent (was a.box e))))
+      ⊎_elim (λ e. rw (a.opens, ← e, here, y.answer) (gone (rw e y.waiter) (ap Ok (was a.box e))))
       (λ ne. rw (a.opens, elsewhere a.box (opens_live t c send_right a.box τ.sound a.opens) ne) (alike_stays (y.rest.others k ne)))
       (same? k a.box)
 
   -- ---- revocation
-  revoke_out : (c : CapId) (r : Revoking) → revoke.RevokeWays t c r → Outcome t r.table k (r.answer ≡ Revoked (waiting x)) (on_any w n c)
+  revoke_out : (c : CapId) (r : Answered (Result Waiter CapError) Table) → revoke.RevokeWays t c r → Outcome t r.table k (r.answer ≡ Ok (waiting x)) (on_any w n c)
   revoke_out c r (revoke.bad_cap o q) = rw (o, q, nowhere) (alike_stays ((authority_only t).mailboxes k))
   revoke_out c r (revoke.revoked j o l a y) =
-      ⊎_elim (λ e. rw (o, ← e, here, a) (gone (rw e y.waiter) (ap Revoked (was j e)))) (λ ne. rw (o, elsewhere j l ne) (alike_stays (y.others k ne))) (same? k j)
+      ⊎_elim (λ e. rw (o, ← e, here, a) (gone (rw e y.waiter) (ap Ok (was j e)))) (λ ne. rw (o, elsewhere j l ne) (alike_stays (y.others k ne))) (same? k j)
 
   -- ---- release
   abbrev leaves_none : List Slot → Bool
@@ -139,7 +139,7 @@ module _ (w : World) (τ : Tidy w) (n k : ℕ) (x : TaskId) (h : Waits w n k x) 
       (same? (hold_count t k - held_in t k ss) 0)))))
       (either (leaves_none ss))
 
-  release_answers : (s₁ s₂ s₃ s₄ : Slot) → answer t (call.release s₁ s₂ s₃ s₄) ≡ call.released Released (release_of t (four_slots s₁ s₂ s₃ s₄)).waiters
+  release_answers : (s₁ s₂ s₃ s₄ : Slot) → answer t (call.release s₁ s₂ s₃ s₄) ≡ call.released (Ok tt) (release_of t (four_slots s₁ s₂ s₃ s₄)).waiters
   unfolding answer release_of
   release_answers s₁ s₂ s₃ s₄ = refl
 
@@ -152,7 +152,7 @@ module _ (w : World) (τ : Tidy w) (n k : ℕ) (x : TaskId) (h : Waits w n k x) 
       (either (same_task x y))
 
   -- ---- park, receive, register: the waiter stays
-  park_out : (c : CapId) (y : TaskId) (r : Parking) {A : Type 0} → park.ParkWays t c y r → Outcome t r.table k A false
+  park_out : (c : CapId) (y : TaskId) (r : Answered (Result (Option Message) ParkError) Table) {A : Type 0} → park.ParkWays t c y r → Outcome t r.table k A false
   park_out c y r (park.bad_cap _ q) = rw q (alike_stays ((authority_only t).mailboxes k))
   park_out c y r (park.given j _ _ _ g) =
       ⊎_elim (λ e. stays (rw e g.live) (rw e g.waiter)) (λ ne. alike_stays (g.rest.others k ne)) (same? k j)
@@ -161,13 +161,13 @@ module _ (w : World) (τ : Tidy w) (n k : ℕ) (x : TaskId) (h : Waits w n k x) 
   park_out c y r (park.parked j _ _ _ p) =
       ⊎_elim (λ e. stays (rw e p.live) (rw e (p.waiter ∙ sym (p.free (ap (λ (z : Waiter). z.present) (was j e)))))) (λ ne. alike_stays (p.rest.others k ne)) (same? k j)
 
-  recv_out : (c : CapId) (r : Receiving) {A : Type 0} → recv.RecvWays t c r → Outcome t r.table k A false
+  recv_out : (c : CapId) (r : Answered (Result Message RecvError) Table) {A : Type 0} → recv.RecvWays t c r → Outcome t r.table k A false
   recv_out c r (recv.bad_cap _ q) = rw q (alike_stays ((authority_only t).mailboxes k))
   recv_out c r (recv.empty _ _ _ q) = rw q (stays refl refl)
   recv_out c r (recv.received j _ _ _ g) =
       ⊎_elim (λ e. stays (rw e g.live) (rw e g.waiter)) (λ ne. alike_stays (g.rest.others k ne)) (same? k j)
 
-  register_out : (words : List ℕ) (r : Registering) {A : Type 0} → register.RegisterCallWays t words r → Outcome t r.table k A false
+  register_out : (words : List ℕ) (r : Answered (Result ⊤ RegisterError) Table) {A : Type 0} → register.RegisterCallWays t words r → Outcome t r.table k A false
   register_out words r (register.bad_word _ q) = rw q (stays refl refl)
   register_out words r (register.all _ _ a) = stays (a.mailboxes k).live (a.mailboxes k).waiter
 

@@ -1,5 +1,5 @@
 -- Every call on a channel table, with its operands; what it answers and what table it leaves, by the rules of `ipc`.
-use Rattle.std.specs.Prelude.{Bool, List, [], ◌∷◌, ℕ, get_or}
+use Rattle.std.specs.Prelude.{Bool, List, [], ◌∷◌, ℕ, get_or, Option, Result, ⊤}
 use Rattle.cap.specs.Slot.{vacant_slot}
 use Rattle.cap.specs.declared.CapId.{CapId}
 use Rattle.cap.specs.declared.slot.Slot.{Slot}
@@ -15,18 +15,16 @@ use Rattle.ipc_rules.specs.declared.state.Payload.{Payload}
 use Rattle.ipc_rules.specs.declared.state.TaskId.{TaskId}
 use Rattle.ipc_rules.specs.declared.state.Waiter.{Waiter}
 use Rattle.ipc_rules.specs.declared.state.Table.{Table}
-use Rattle.ipc_rules.specs.declared.answers.CreateAnswer.{CreateAnswer}
-use Rattle.ipc_rules.specs.declared.answers.SendAnswer.{SendAnswer}
-use Rattle.ipc_rules.specs.declared.answers.RecvAnswer.{RecvAnswer}
-use Rattle.ipc_rules.specs.declared.answers.ParkAnswer.{ParkAnswer}
-use Rattle.ipc_rules.specs.declared.answers.QueuedAnswer.{QueuedAnswer}
-use Rattle.ipc_rules.specs.declared.answers.HoldersAnswer.{HoldersAnswer}
-use Rattle.ipc_rules.specs.declared.answers.RegisterAnswer.{RegisterAnswer}
-use Rattle.ipc_rules.specs.declared.answers.ReleaseAnswer.{ReleaseAnswer}
-use Rattle.ipc_rules.specs.declared.answers.RevokeAnswer.{RevokeAnswer}
-use Rattle.ipc_rules.specs.declared.answers.ClearAnswer.{ClearAnswer}
-use Rattle.ipc_rules.specs.declared.answers.NoteAnswer.{NoteAnswer}
-use Rattle.ipc_rules.specs.declared.answers.RefusalsAnswer.{RefusalsAnswer}
+use Rattle.ipc_rules.specs.declared.state.Channel.{Channel}
+use Rattle.ipc_rules.specs.declared.answers.CreateError.{CreateError}
+use Rattle.ipc_rules.specs.declared.answers.SendError.{SendError}
+use Rattle.ipc_rules.specs.declared.state.Message.{Message}
+use Rattle.ipc_rules.specs.declared.answers.RecvError.{RecvError}
+use Rattle.ipc_rules.specs.declared.answers.ParkError.{ParkError}
+use Rattle.ipc_rules.specs.declared.answers.CapError.{CapError}
+use Rattle.ipc_rules.specs.declared.answers.RegisterError.{RegisterError}
+use Rattle.ipc_rules.specs.declared.answers.TableError.{TableError}
+use Rattle.ipc_rules.specs.declared.state.Refusals.{Refusals}
 
 -- a send has what the sender hands in, and the sending row, which the kernel names (request No. 10); a register has a list as words, any
 -- length; a release has exactly four places
@@ -47,18 +45,18 @@ pub data Call : Type 0 where
 
 -- the answer of each, in the order of the calls; a release's four waiters stand beside its answer, and both note calls have one kind
 pub data Answer : Type 0 where
-  created : CreateAnswer → Answer
-  sent : SendAnswer → Answer
-  received : RecvAnswer → Answer
-  parked : ParkAnswer → Answer
-  measured : QueuedAnswer → Answer
-  revoked : RevokeAnswer → Answer
-  registered : RegisterAnswer → Answer
-  released : ReleaseAnswer → List Waiter → Answer
-  held : HoldersAnswer → Answer
-  cleared : ClearAnswer → Answer
-  noted : NoteAnswer → Answer
-  counted : RefusalsAnswer → Answer
+  created : Result Channel CreateError → Answer
+  sent : Result Waiter SendError → Answer
+  received : Result Message RecvError → Answer
+  parked : Result (Option Message) ParkError → Answer
+  measured : Result ℕ CapError → Answer
+  revoked : Result Waiter CapError → Answer
+  registered : Result ⊤ RegisterError → Answer
+  released : Result ⊤ TableError → List Waiter → Answer
+  held : Result ℕ CapError → Answer
+  cleared : Result ℕ TableError → Answer
+  noted : Result ⊤ TableError → Answer
+  counted : Result Refusals TableError → Answer
 
 -- the four places of a release
 abbrev pub four_slots : Slot → Slot → Slot → Slot → List Slot

@@ -1,25 +1,25 @@
 -- Document 01, "Both sides of each edge": its starred lines, in its order, as one table of what the rules give beside what the document
 -- says, all in numbers. `EdgesAgree` is the one statement over it.
-use Rattle.std.specs.Prelude.{◌≡◌, true, false, List, [], ◌∷◌, ◌++◌, ℕ, zero, suc}
+use Rattle.std.specs.Prelude.{◌≡◌, true, false, List, [], ◌∷◌, ◌++◌, ℕ, zero, suc, None, Some, Result}
 use Rattle.laws.specs.Refusals as no
 use Rattle.cap.specs.Id.{id_of, index_of, generation_of, class_of}
 use Rattle.cap.specs.Slot.{slot_number, slot_values}
 use Rattle.cap.specs.declared.CapClass.{CapClass}
 use Rattle.cap.specs.declared.CapClass.TheVariants.{Endpoint, Task, Irq, Invalid}
-use Rattle.cap.specs.declared.slot.SlotAnswer.{SlotAnswer}
 use Rattle.capslots.specs.Rows.{get_of, seed_of}
 use Rattle.capslots.specs.Table.{fresh_table}
 use Rattle.mint.specs.Generation.{next_generation}
 use Rattle.mint.specs.Answer.{mint_number}
 use Rattle.irqcap.specs.Table as irq
-use Rattle.irqcap.specs.declared.Table.{Table}
+use Rattle.irqcap.specs.Table.{Table}
 use Rattle.manifest.specs.Bind.{bind_of, bind_number, bind_values}
 use Rattle.manifest.specs.declared.AgentEntry.{AgentEntry}
-use Rattle.manifest.specs.declared.Want.{Want}
 use Rattle.ipc_rules.specs.State.{sizes_of}
 use Rattle.ipc_rules.specs.Make.{fresh_of}
 use Rattle.ipc_rules.specs.Create.{create_of}
 use Rattle.ipc_rules.specs.Answers.{create_number}
+use Rattle.cap.specs.declared.CapId.{CapId}
+use Rattle.cap.specs.declared.slot.SlotError.{SlotError}
 
 -- what the rules give, and what the document says
 pub record Edge : Type 0 where
@@ -47,7 +47,7 @@ abbrev pub class_at : ℕ → List ℕ
 class_at index = class_values (class_of (id_of index 1))
 
 -- a slot of a row that was seeded with these words
-abbrev pub slot_of : List ℕ → ℕ → SlotAnswer
+abbrev pub slot_of : List ℕ → ℕ → Result CapId SlotError
 slot_of words s = get_of (seed_of fresh_table 0 words).table 0 s
 
 abbrev pub slot_seen : List ℕ → ℕ → List ℕ
@@ -64,10 +64,7 @@ irq_mints (suc n) t = mint_number (irq.mint_of t 0).answer ∷ irq_mints n (irq.
 
 -- an entry without packet pool, whose first slot wants this index and whose others want nothing
 abbrev pub wanting : ℕ → AgentEntry
-wanting index = record { slots = record { present = true; index = index } ∷ none ∷ none ∷ none ∷ []; packet_pool = false }
-  where
-    none : Want
-    none = record { present = false; index = 0 }
+wanting index = record { slots = Some index ∷ None ∷ None ∷ None ∷ []; packet_pool = false }
 
 -- its bind to a held list, as words
 abbrev pub bind_seen : ℕ → List ℕ → List ℕ

@@ -6,7 +6,7 @@
 --                                                                run, however late it is made, and however many messages and tasks
 --   "inventing refusal, clearing or ended-entry counts"          `CountsTold` in a run; what a clearing and an ending count, their rules
 --                                                                count over the table before
-use Rattle.std.specs.Prelude.{◌≡◌, Bool, false, List, [], ◌∷◌, ℕ, ◌<◌}
+use Rattle.std.specs.Prelude.{◌≡◌, Bool, false, List, [], ◌∷◌, ℕ, ◌<◌, None, Ok, Some}
 use Rattle.cap.specs.Slot.{holding}
 use Rattle.cap.specs.Word.{word_of}
 use Rattle.ipc_rules.specs.State.{nobody, waiting, stamped, sizes_of}
@@ -14,10 +14,6 @@ use Rattle.ipc_rules.specs.declared.state.Channel.{Channel}
 use Rattle.ipc_rules.specs.declared.state.Message.{Message}
 use Rattle.ipc_rules.specs.declared.state.Payload.{Payload}
 use Rattle.ipc_rules.specs.declared.state.TaskId.{TaskId}
-use Rattle.ipc_rules.specs.declared.answers.SendAnswer.TheVariants.{Sent}
-use Rattle.ipc_rules.specs.declared.answers.RecvAnswer.TheVariants.{Received}
-use Rattle.ipc_rules.specs.declared.answers.ParkAnswer.TheVariants.{Parked, Given}
-use Rattle.ipc_rules.specs.declared.answers.RegisterAnswer.TheVariants.{Registered}
 use Rattle.history.specs.Calls.{Call, create, send, receive, park, register, Answer, sent, received, parked, registered}
 use Rattle.history.specs.World.{World, step, answers, start, Reached}
 use Rattle.history.specs.Ids.{Makes}
@@ -51,7 +47,7 @@ exchange ids (x ∷ xs) = send ids.send x.parts x.row ∷ receive ids.recv ∷ e
 -- each comes out
 unfoldable pub exchanged : List Sentence → List Answer
 exchanged [] = []
-exchanged (x ∷ xs) = sent (Sent nobody) ∷ received (Received (written x)) ∷ exchanged xs
+exchanged (x ∷ xs) = sent (Ok nobody) ∷ received (Ok (written x)) ∷ exchanged xs
 
 abbrev pub MessagesCome : Type 0
 MessagesCome =
@@ -72,7 +68,7 @@ waits ids (x ∷ xs) = park ids.recv x.task ∷ send ids.send x.sentence.parts x
 -- each send names the task, which is then given the sentence
 unfoldable pub waited : List Wait → List Answer
 waited [] = []
-waited (x ∷ xs) = parked Parked ∷ sent (Sent (waiting x.task)) ∷ parked (Given (written x.sentence)) ∷ waited xs
+waited (x ∷ xs) = parked (Ok None) ∷ sent (Ok (waiting x.task)) ∷ parked (Ok (Some (written x.sentence))) ∷ waited xs
 
 abbrev pub WaitersNamed : Type 0
 WaitersNamed =
@@ -83,4 +79,4 @@ WaitersNamed =
 abbrev pub HeldWaitersNamed : Type 0
 HeldWaitersNamed =
     (w : World) → Reached w → (b : Bool) (n : ℕ) (ids : Channel) → Makes w b n ids →
-    (xs : List Wait) → answers (step w (create b)) (register (word_of (holding ids.send) ∷ []) ∷ waits ids xs) ≡ registered Registered ∷ waited xs
+    (xs : List Wait) → answers (step w (create b)) (register (word_of (holding ids.send) ∷ []) ∷ waits ids xs) ≡ registered (Ok tt) ∷ waited xs

@@ -9,7 +9,7 @@
 --   have succeeded"
 --
 -- A channel lives in one mailbox at most, so that "the mailbox where n lives" is one: `OneMailbox`.
-use Rattle.std.specs.Prelude.{◌≡◌, Bool, false, List, ◌⊎◌, ℕ, suc, ◌+◌, ◌<◌}
+use Rattle.std.specs.Prelude.{◌≡◌, Bool, false, List, ◌⊎◌, ℕ, suc, ◌+◌, ◌<◌, Ok}
 use Rattle.cap.specs.Rights.{send_right, receive_right}
 use Rattle.cap.specs.declared.CapId.{CapId}
 use Rattle.cap.specs.declared.CapRights.{CapRights}
@@ -17,8 +17,6 @@ use Rattle.cap.specs.declared.slot.Slot.{Slot}
 use Rattle.ipc_rules.specs.Opening.{opening_of, either_of, any_right_of, hold_of}
 use Rattle.ipc_rules.specs.declared.state.Channel.{Channel}
 use Rattle.ipc_rules.specs.declared.state.Waiter.{Waiter}
-use Rattle.ipc_rules.specs.declared.answers.CreateAnswer.TheVariants.{Created}
-use Rattle.ipc_rules.specs.declared.answers.RevokeAnswer.TheVariants.{Revoked}
 use Rattle.ipc_rules.specs.declared.opening.Opening.TheVariants.{Opens, Shut}
 use Rattle.history.specs.Calls.{Call, create, revoke, created, revoked, answer}
 use Rattle.history.specs.World.{World, step, run, Reached}
@@ -27,7 +25,7 @@ use Rattle.history.specs.Reach.{Reach}
 
 -- in w the creation succeeds: it makes channel n, with these ids
 pub record Makes (w : World) (ephemeral : Bool) (n : ℕ) (ids : Channel) : Type 0 where
-  pub answers : answer w.table (create ephemeral) ≡ created (Created ids)
+  pub answers : answer w.table (create ephemeral) ≡ created (Ok ids)
   pub number : n ≡ suc w.made
 
 -- its creation, in the calls that came to w
@@ -102,7 +100,7 @@ abbrev pub IdsEnd : Type 0
 IdsEnd =
     (w : World) → Reached w → (b : Bool) (n : ℕ) (ids : Channel) → Makes w b n ids →
     (some : List Call) → let v = run (step w (create b)) some in
-    v.made < n + 65535 → (c : CapId) → IdOf ids c → (x : Waiter) → answer v.table (revoke c) ≡ revoked (Revoked x) →
+    v.made < n + 65535 → (c : CapId) → IdOf ids c → (x : Waiter) → answer v.table (revoke c) ≡ revoked (Ok x) →
     (later : List Call) → Ended (run (step v (revoke c)) later) n ids
 
 -- with 65,535 the bound is exact: a run that makes channel 1, revokes it at once and makes 65,535 more, after which both its ids open the last

@@ -2,7 +2,7 @@
 -- one id and, on success, registers it" (document 01); "spawn must first release what the row held, then seed, then register only the ids
 -- that are now in the row" (change request No. 1). What each does to the channel table, the calls here do; what holds over every run of
 -- calls holds over runs with joined steps in them. So a spawn's release counts as one, whatever its register then raises.
-use Rattle.std.specs.Prelude.{◌≡◌, List, [], ◌∷◌, ℕ, ◌<◌, eqb}
+use Rattle.std.specs.Prelude.{◌≡◌, List, [], ◌∷◌, ℕ, ◌<◌, eqb, Ok}
 use Rattle.laws.specs.Pick.{pick}
 use Rattle.laws.specs.Refusals as no
 use Rattle.cap.specs.Slot.{holding}
@@ -12,13 +12,8 @@ use Rattle.capslots.specs.Rows.{drain_of}
 use Rattle.capslots.specs.Table.{row_at, Shape}
 use Rattle.capslots.specs.declared.Table.{Table as Rows}
 use Rattle.ipc_rules.specs.declared.state.Table.{Table}
-use Rattle.ipc_rules.specs.declared.answers.RegisterAnswer.TheVariants.{Registered}
-use Rattle.ipc_rules.specs.declared.answers.ReleaseAnswer.TheVariants.{Released}
 use Rattle.joined.specs.Answers.{spawn_number, leave_number, give_number}
 use Rattle.joined.specs.Steps.{spawn_of, leave_of, give_of}
-use Rattle.joined.specs.declared.answers.SpawnAnswer.TheVariants.{Spawned}
-use Rattle.joined.specs.declared.answers.LeaveAnswer.TheVariants.{Left}
-use Rattle.joined.specs.declared.answers.GiveAnswer.TheVariants.{Given}
 use Rattle.history.specs.Calls.{Call, register, releasing, registered, released, answer}
 use Rattle.history.specs.World.{World, run, Reached}
 use Rattle.history.specs.Lent.{lending}
@@ -58,14 +53,14 @@ JoinedRuns = (w : World) → Reached w → (rows : Rows) → Shape rows → Join
 
 -- ---- and what a step that succeeds answers of the channels is what its calls answer: spawn's four waiters are the release's, as leave's are
 pub record SpawnTold (t : Table) (rows : Rows) (r : ℕ) (words : List ℕ) : Type 0 where
-  pub first : answer t (releasing (drain_of rows r).slots) ≡ released Released (spawn_of t rows r words).waiters
-  pub then : (u : Table) → answer u (filling t rows r words) ≡ registered Registered
+  pub first : answer t (releasing (drain_of rows r).slots) ≡ released (Ok tt) (spawn_of t rows r words).waiters
+  pub then : (u : Table) → answer u (filling t rows r words) ≡ registered (Ok tt)
 
 pub record JoinedTold (t : Table) (rows : Rows) : Type 0 where
-  pub spawn : (r : ℕ) (words : List ℕ) → (spawn_of t rows r words).answer ≡ Spawned → SpawnTold t rows r words
-  pub leave : (r : ℕ) → (leave_of t rows r).answer ≡ Left → answer t (releasing (drain_of rows r).slots) ≡ released Released (leave_of t rows r).waiters
+  pub spawn : (r : ℕ) (words : List ℕ) → (spawn_of t rows r words).answer ≡ Ok tt → SpawnTold t rows r words
+  pub leave : (r : ℕ) → (leave_of t rows r).answer ≡ Ok tt → answer t (releasing (drain_of rows r).slots) ≡ released (Ok tt) (leave_of t rows r).waiters
   -- an id has 32 bits
-  pub give : (r s : ℕ) (c : CapId) → c.raw < 4294967296 → (give_of t rows r s c).answer ≡ Given → answer t (registering c) ≡ registered Registered
+  pub give : (r s : ℕ) (c : CapId) → c.raw < 4294967296 → (give_of t rows r s c).answer ≡ Ok tt → answer t (registering c) ≡ registered (Ok tt)
 
 abbrev pub JoinedTell : Type 0
 JoinedTell = (t : Table) (rows : Rows) → Shape rows → JoinedTold t rows

@@ -17,7 +17,7 @@
 --   "once"                                   the calls before d gave the q others, and what calls after d give was accepted after it: `Once`
 --   "unless the channel is revoked first"    `Spares v n before`: no call before d revokes n. Until d comes, it waits (`WaitsItsTurn`); from a
 --                                            revocation on nothing is given (`NothingMore`)
-use Rattle.std.specs.Prelude.{◌≡◌, Bool, true, List, [], ◌∷◌, ◌++◌, ℕ, ◌+◌, ◌-◌, ◌≤◌, ◌<◌, get_or, length}
+use Rattle.std.specs.Prelude.{◌≡◌, Bool, true, List, [], ◌∷◌, ◌++◌, ℕ, ◌+◌, ◌-◌, ◌≤◌, ◌<◌, get_or, length, Ok, Some}
 use Rattle.cap.specs.Rights.{send_right, receive_right}
 use Rattle.cap.specs.declared.CapId.{CapId}
 use Rattle.ipc_rules.specs.State.{fresh_message, stamped}
@@ -29,9 +29,6 @@ use Rattle.ipc_rules.specs.declared.state.Message.{Message}
 use Rattle.ipc_rules.specs.declared.state.Payload.{Payload}
 use Rattle.ipc_rules.specs.declared.state.TaskId.{TaskId}
 use Rattle.ipc_rules.specs.declared.state.Waiter.{Waiter}
-use Rattle.ipc_rules.specs.declared.answers.SendAnswer.TheVariants.{Sent}
-use Rattle.ipc_rules.specs.declared.answers.RecvAnswer.TheVariants.{Received}
-use Rattle.ipc_rules.specs.declared.answers.ParkAnswer.TheVariants.{Given}
 use Rattle.history.specs.Calls.{Call, create, send, receive, park}
 use Rattle.history.specs.World.{World, step, run, Reached}
 use Rattle.history.specs.Channels.{LivesIn, on}
@@ -146,7 +143,7 @@ pub record SomeAccepts (w : World) (c : CapId) (p : Payload) (row : ℕ) : Type 
   pub is : AcceptedBehind w number box ahead c p row
 
 abbrev pub EachSent : Type 0
-EachSent = (w : World) → Reached w → (c : CapId) (p : Payload) (row : ℕ) (x : Waiter) → (send_of w.table c p row).answer ≡ Sent x → SomeAccepts w c p row
+EachSent = (w : World) → Reached w → (c : CapId) (p : Payload) (row : ℕ) (x : Waiter) → (send_of w.table c p row).answer ≡ Ok x → SomeAccepts w c p row
 
 -- each message in an answer was given from a channel
 pub record SomeGives (w : World) (c : Call) (m : Message) : Type 0 where
@@ -154,7 +151,7 @@ pub record SomeGives (w : World) (c : Call) (m : Message) : Type 0 where
   pub is : given w number c ≡ m ∷ []
 
 abbrev pub EachReceived : Type 0
-EachReceived = (w : World) → Reached w → (c : CapId) (m : Message) → (recv_of w.table c).answer ≡ Received m → SomeGives w (receive c) m
+EachReceived = (w : World) → Reached w → (c : CapId) (m : Message) → (recv_of w.table c).answer ≡ Ok m → SomeGives w (receive c) m
 
 abbrev pub EachGiven : Type 0
-EachGiven = (w : World) → Reached w → (c : CapId) (task : TaskId) (m : Message) → (park_of w.table c task).answer ≡ Given m → SomeGives w (park c task) m
+EachGiven = (w : World) → Reached w → (c : CapId) (task : TaskId) (m : Message) → (park_of w.table c task).answer ≡ Ok (Some m) → SomeGives w (park c task) m

@@ -4,14 +4,13 @@
 --                                            send that names a row from 54 up is refused before its id is looked at: `RowRefused`
 --   the lists of a register and a release    `Touches`: the slot's own step changes that mailbox alone, or nothing; `AlikeBut`: so other
 --                                            mailboxes are changed by the other ids of the list alone
-use Rattle.std.specs.Prelude.{◌≡◌, Bool, ◌&&◌, List, [], ◌∷◌, ◌⊎◌, ℕ, ◌≤◌, ◌<◌, eqb, get_or, length, set}
+use Rattle.std.specs.Prelude.{◌≡◌, Bool, ◌&&◌, List, [], ◌∷◌, ◌⊎◌, ℕ, ◌≤◌, ◌<◌, eqb, get_or, length, set, Err, None, Ok, Option, Result, Some}
 use Rattle.laws.specs.Pick.{pick}
 use Rattle.laws.specs.Refusals as no
 use Rattle.cap.specs.Slot.{vacant_slot}
 use Rattle.cap.specs.Word.{read_word}
 use Rattle.cap.specs.declared.CapId.{CapId}
 use Rattle.cap.specs.declared.slot.Slot.{Slot}
-use Rattle.cap.specs.declared.word.WordAnswer.TheVariants.{Reads}
 use Rattle.ipc_rules.specs.Holds.{registered, registered_all, Freed, released, released_all}
 use Rattle.ipc_rules.specs.Receive.{other_waits}
 use Rattle.ipc_rules.specs.Views.{queue_of, waiter_of, hold_count, ephemeral_of, Alike, OnlyMailbox, OnlyCounts}
@@ -20,34 +19,31 @@ use Rattle.ipc_rules.specs.declared.state.Payload.{Payload}
 use Rattle.ipc_rules.specs.declared.state.TaskId.{TaskId}
 use Rattle.ipc_rules.specs.declared.state.Waiter.{Waiter}
 use Rattle.ipc_rules.specs.declared.state.Table.{Table}
-use Rattle.ipc_rules.specs.declared.answers.SendAnswer.TheVariants.{Sent, Full}
-use Rattle.ipc_rules.specs.declared.answers.RecvAnswer.{RecvAnswer}
-use Rattle.ipc_rules.specs.declared.answers.RecvAnswer.TheVariants.{Received, Empty}
-use Rattle.ipc_rules.specs.declared.answers.ParkAnswer.{ParkAnswer}
-use Rattle.ipc_rules.specs.declared.answers.ParkAnswer.TheVariants.{Parked, Given, Busy, Cancelled}
-use Rattle.ipc_rules.specs.declared.answers.QueuedAnswer.TheVariants.{Queued}
-use Rattle.ipc_rules.specs.declared.answers.HoldersAnswer.TheVariants.{Holders}
-use Rattle.ipc_rules.specs.declared.answers.RevokeAnswer.TheVariants.{Revoked}
+use Rattle.ipc_rules.specs.declared.answers.SendError.TheVariants.{Full}
+use Rattle.ipc_rules.specs.declared.answers.RecvError.TheVariants.{Empty}
+use Rattle.ipc_rules.specs.declared.answers.ParkError.TheVariants.{Busy, Cancelled}
 use Rattle.history.specs.Calls.{Call, send, receive, park, queued, revoke, register, releasing, holders, Answer, sent, received, parked, measured, revoked, held, answer, after}
 use Rattle.history.specs.Numbers.{number_of, values_of}
 use Rattle.history.specs.Refusals.{RowRefused}
 use Rattle.history.specs.World.{World}
 use Rattle.history.specs.Channels.{LivesIn}
+use Rattle.ipc_rules.specs.declared.answers.RecvError.{RecvError}
+use Rattle.ipc_rules.specs.declared.answers.ParkError.{ParkError}
 
 -- ---- a call with one id
 -- the oldest of what waits, or Empty
-unfoldable pub oldest_of : List Message → RecvAnswer
-oldest_of [] = Empty
-oldest_of (m ∷ ms) = Received m
+unfoldable pub oldest_of : List Message → Result Message RecvError
+oldest_of [] = Err Empty
+oldest_of (m ∷ ms) = Ok m
 
 -- a park's answer, by what waits in the mailbox, whether it is ephemeral, its holds and its waiter
-unfoldable pub park_by : TaskId → List Message → Bool → ℕ → Waiter → ParkAnswer
-park_by task (m ∷ ms) ephemeral n x = Given m
-park_by task [] ephemeral n x = pick (ephemeral && eqb n 0) Cancelled (pick (other_waits x task) Busy Parked)
+unfoldable pub park_by : TaskId → List Message → Bool → ℕ → Waiter → Result (Option Message) ParkError
+park_by task (m ∷ ms) ephemeral n x = Ok (Some m)
+park_by task [] ephemeral n x = pick (ephemeral && eqb n 0) (Err Cancelled) (pick (other_waits x task) (Err Busy) (Ok None))
 
 -- how a mailbox answers each call with an id
 abbrev pub send_at : Table → ℕ → Answer
-send_at t k = sent (pick (eqb (length (queue_of t k)) t.sizes.depth) Full (Sent (waiter_of t k)))
+send_at t k = sent (pick (eqb (length (queue_of t k)) t.sizes.depth) (Err Full) (Ok (waiter_of t k)))
 
 abbrev pub receive_at : Table → ℕ → Answer
 receive_at t k = received (oldest_of (queue_of t k))
@@ -56,13 +52,13 @@ abbrev pub park_at : Table → TaskId → ℕ → Answer
 park_at t task k = parked (park_by task (queue_of t k) (ephemeral_of t k) (hold_count t k) (waiter_of t k))
 
 abbrev pub queued_at : Table → ℕ → Answer
-queued_at t k = measured (Queued (length (queue_of t k)))
+queued_at t k = measured (Ok (length (queue_of t k)))
 
 abbrev pub revoke_at : Table → ℕ → Answer
-revoke_at t k = revoked (Revoked (waiter_of t k))
+revoke_at t k = revoked (Ok (waiter_of t k))
 
 abbrev pub holders_at : Table → ℕ → Answer
-holders_at t k = held (Holders (hold_count t k))
+holders_at t k = held (Ok (hold_count t k))
 
 -- a call on channel n or on nothing: refused with BadCap, which shows no values, or answered by the mailbox where n lives; no other mailbox
 -- changes
@@ -93,5 +89,5 @@ pub record Reach (w : World) (n : ℕ) (c : CapId) : Type 0 where
   pub registers : (x : Slot) → x.id ≡ c → (before : List Slot) → let t = registered_all w.table before in Touches w n t (record { table = registered t x; woken = [] })
   pub releases : (x : Slot) → x.id ≡ c → (before : List Slot) → let t = (released_all w.table before).table in Touches w n t (released t x)
   -- and in the whole call, at any place i: what is done to other mailboxes is done with that place vacant too
-  pub register : (words : List ℕ) (i : ℕ) (x : Slot) → read_word (get_or words i 0) ≡ Reads x → x.id ≡ c → AlikeBut w n (register words) (register (set words i 0))
+  pub register : (words : List ℕ) (i : ℕ) (x : Slot) → read_word (get_or words i 0) ≡ Ok x → x.id ≡ c → AlikeBut w n (register words) (register (set words i 0))
   pub release : (slots : List Slot) (i : ℕ) → (get_or slots i vacant_slot).id ≡ c → AlikeBut w n (releasing slots) (releasing (set slots i vacant_slot))

@@ -1,6 +1,6 @@
 -- Demand 1, over runs: "A refusal carries its listed number, raises only its listed count, and changes no other table or lent byte."
 -- Document 01, "Every no, by number": which numbers each call gives, and which count each raises. 27 is given to no call of a run.
-use Rattle.std.specs.Prelude.{◌≡◌, Bool, true, false, ◌||◌, ℕ, ◌≤◌, eqb}
+use Rattle.std.specs.Prelude.{◌≡◌, Bool, true, false, ◌||◌, ℕ, ◌≤◌, eqb, Err}
 use Rattle.laws.specs.Refusals as no
 use Rattle.cap.specs.declared.CapId.{CapId}
 use Rattle.ipc_rules.specs.State.{with_refusals}
@@ -8,7 +8,7 @@ use Rattle.ipc_rules.specs.Views.{counts_by}
 use Rattle.ipc_rules.specs.declared.state.Payload.{Payload}
 use Rattle.ipc_rules.specs.declared.state.Refusals.{Refusals}
 use Rattle.ipc_rules.specs.declared.state.Table.{Table}
-use Rattle.ipc_rules.specs.declared.answers.SendAnswer.TheVariants.{BadRow}
+use Rattle.ipc_rules.specs.declared.answers.SendError.TheVariants.{BadRow}
 use Rattle.history.specs.Calls.{Call, create, send, receive, park, queued, revoke, register, release, holders, clear, note_authority, note_state, counts, sent, answer, after}
 use Rattle.history.specs.Numbers.{number_of}
 use Rattle.history.specs.World.{World, settled, step, Reached}
@@ -60,9 +60,9 @@ CountsTold = (w : World) → Reached w → (call : Call) → (step w call).table
 -- ---- request No. 10: "for a row from 54 up, .. 19 in the send call, before BadCap and without a count"
 -- the send answers 19, whatever its id opens, and nothing changes
 pub record RowRefused (t : Table) (c : CapId) (p : Payload) (row : ℕ) : Type 0 where
-  pub answers : answer t (send c p row) ≡ sent BadRow
+  pub answers : answer t (send c p row) ≡ sent (Err BadRow)
   pub leaves : after t (send c p row) ≡ t
 
 -- exactly so
 abbrev pub RowsRefused : Type 0
-RowsRefused = (t : Table) (c : CapId) (p : Payload) (row : ℕ) → (54 ≤ row → RowRefused t c p row) × (answer t (send c p row) ≡ sent BadRow → 54 ≤ row)
+RowsRefused = (t : Table) (c : CapId) (p : Payload) (row : ℕ) → (54 ≤ row → RowRefused t c p row) × (answer t (send c p row) ≡ sent (Err BadRow) → 54 ≤ row)

@@ -1,42 +1,46 @@
 -- What goes into a channel and what comes out of it, by answer, by call and by run.
-use Rattle.std.specs.Prelude.{◌≡◌, Bool, false, List, [], ◌∷◌, ◌++◌, ℕ}
+use Rattle.std.specs.Prelude.{◌≡◌, Bool, false, List, [], ◌∷◌, ◌++◌, ℕ, Err, None, Ok, Option, Result, Some}
 use Rattle.laws.specs.Pick.{pick}
 use Rattle.cap.specs.Rights.{send_right, receive_right}
 use Rattle.ipc_rules.specs.State.{stamped}
 use Rattle.ipc_rules.specs.Send.{send_of}
 use Rattle.ipc_rules.specs.Receive.{recv_of, park_of}
 use Rattle.ipc_rules.specs.declared.state.Message.{Message}
-use Rattle.ipc_rules.specs.declared.answers.SendAnswer as send
-use Rattle.ipc_rules.specs.declared.answers.RecvAnswer as recv
-use Rattle.ipc_rules.specs.declared.answers.ParkAnswer as park
+use Rattle.ipc_rules.specs.declared.answers.SendError.TheVariants as send
+use Rattle.ipc_rules.specs.declared.answers.RecvError.TheVariants as recv
+use Rattle.ipc_rules.specs.declared.answers.ParkError.TheVariants as park
 use Rattle.history.specs.Calls.{Call, create, send, receive, park, queued, revoke, register, release, holders, clear, note_authority, note_state, counts}
 use Rattle.history.specs.World.{World, step}
 use Rattle.history.specs.Channels.{on, on_any}
+use Rattle.ipc_rules.specs.declared.state.Waiter.{Waiter}
+use Rattle.ipc_rules.specs.declared.answers.SendError.{SendError}
+use Rattle.ipc_rules.specs.declared.answers.RecvError.{RecvError}
+use Rattle.ipc_rules.specs.declared.answers.ParkError.{ParkError}
 
 -- ---- by answer
 -- m, where its send was accepted
-unfoldable pub if_sent : send.SendAnswer → Message → List Message
-if_sent (send.TheVariants.Sent w) m = m ∷ []
-if_sent send.TheVariants.BadRow m = []
-if_sent send.TheVariants.BadCap m = []
-if_sent send.TheVariants.Full m = []
-if_sent send.TheVariants.BadTable m = []
+unfoldable pub if_sent : Result Waiter SendError → Message → List Message
+if_sent (Ok w) m = m ∷ []
+if_sent (Err send.BadRow) m = []
+if_sent (Err send.BadCap) m = []
+if_sent (Err send.Full) m = []
+if_sent (Err send.BadTable) m = []
 
 -- what a try to receive has given
-unfoldable pub by_receive : recv.RecvAnswer → List Message
-by_receive (recv.TheVariants.Received m) = m ∷ []
-by_receive recv.TheVariants.BadCap = []
-by_receive recv.TheVariants.Empty = []
-by_receive recv.TheVariants.BadTable = []
+unfoldable pub by_receive : Result Message RecvError → List Message
+by_receive (Ok m) = m ∷ []
+by_receive (Err recv.BadCap) = []
+by_receive (Err recv.Empty) = []
+by_receive (Err recv.BadTable) = []
 
 -- what a park has given
-unfoldable pub by_park : park.ParkAnswer → List Message
-by_park (park.TheVariants.Given m) = m ∷ []
-by_park park.TheVariants.Parked = []
-by_park park.TheVariants.BadCap = []
-by_park park.TheVariants.Busy = []
-by_park park.TheVariants.Cancelled = []
-by_park park.TheVariants.BadTable = []
+unfoldable pub by_park : Result (Option Message) ParkError → List Message
+by_park (Ok (Some m)) = m ∷ []
+by_park (Ok None) = []
+by_park (Err park.BadCap) = []
+by_park (Err park.Busy) = []
+by_park (Err park.Cancelled) = []
+by_park (Err park.BadTable) = []
 
 -- ---- by call
 -- the messages, one or none, that a call puts into channel n: of an accepted send, what was handed in, stamped with the row that the call names

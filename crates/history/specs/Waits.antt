@@ -14,7 +14,7 @@
 -- "the first later", "whichever comes first", "sooner": no call before it is one of these (`Quiet`, `First`).
 -- "Nothing else ends the wait": every other call is false in `ends`, and through every run of such calls x waits on. Every run is
 --     of such calls alone, or has a first that ends the wait (`NamedFirst`, `Fate`, `ParkedNamed`).
-use Rattle.std.specs.Prelude.{◌≡◌, Bool, true, false, ◌&&◌, List, [], ◌∷◌, ◌++◌, ◌⊎◌, ℕ, ◌+◌, ◌-◌, eqb, get_or}
+use Rattle.std.specs.Prelude.{◌≡◌, Bool, true, false, ◌&&◌, List, [], ◌∷◌, ◌++◌, ◌⊎◌, ℕ, ◌+◌, ◌-◌, eqb, get_or, None, Ok}
 use Rattle.laws.specs.Pick.{pick}
 use Rattle.laws.specs.Refusals as no
 use Rattle.cap.specs.Rights.{send_right, receive_right}
@@ -31,10 +31,6 @@ use Rattle.ipc_rules.specs.declared.state.Payload.{Payload}
 use Rattle.ipc_rules.specs.declared.state.TaskId.{TaskId}
 use Rattle.ipc_rules.specs.declared.state.Waiter.{Waiter}
 use Rattle.ipc_rules.specs.declared.state.Table.{Table}
-use Rattle.ipc_rules.specs.declared.answers.SendAnswer.TheVariants.{Sent}
-use Rattle.ipc_rules.specs.declared.answers.ParkAnswer.TheVariants.{Parked}
-use Rattle.ipc_rules.specs.declared.answers.ReleaseAnswer.TheVariants.{Released}
-use Rattle.ipc_rules.specs.declared.answers.RevokeAnswer.TheVariants.{Revoked}
 use Rattle.ipc_rules.specs.declared.opening.Opening.TheVariants.{Opens}
 use Rattle.history.specs.Calls.{Call, create, send, receive, park, queued, revoke, register, release, holders, clear, note_authority, note_state, counts, sent, parked, revoked, released, four_slots, answer}
 use Rattle.history.specs.World.{World, step, run, Reached}
@@ -81,10 +77,10 @@ turn_of t k xs (s ∷ ss) = pick (takes_last t xs s k) 0 (waits_ended t xs s + t
 -- ---- named, or cleared
 -- the call, made on table t, answers task x, who waited on mailbox k: a send and a revocation answer one waiter, and a release four
 pub data Names (t : Table) (k : ℕ) (x : TaskId) : Call → Type 0 where
-  by_send : {c : CapId} {p : Payload} {row : ℕ} → answer t (send c p row) ≡ sent (Sent (waiting x)) → Names t k x (send c p row)
-  by_revocation : {c : CapId} → answer t (revoke c) ≡ revoked (Revoked (waiting x)) → Names t k x (revoke c)
+  by_send : {c : CapId} {p : Payload} {row : ℕ} → answer t (send c p row) ≡ sent (Ok (waiting x)) → Names t k x (send c p row)
+  by_revocation : {c : CapId} → answer t (revoke c) ≡ revoked (Ok (waiting x)) → Names t k x (revoke c)
   by_release :
-      {s₁ s₂ s₃ s₄ : Slot} (ws : List Waiter) → answer t (release s₁ s₂ s₃ s₄) ≡ released Released ws →
+      {s₁ s₂ s₃ s₄ : Slot} (ws : List Waiter) → answer t (release s₁ s₂ s₃ s₄) ≡ released (Ok tt) ws →
       get_or ws (turn_of t k [] (four_slots s₁ s₂ s₃ s₄)) nobody ≡ waiting x → Names t k x (release s₁ s₂ s₃ s₄)
 
 -- the call is a clearing of x
@@ -139,4 +135,4 @@ pub record ParkedOn (w : World) (c : CapId) (x : TaskId) : Type 0 where
 
 -- the demand's sentences, from the park on
 abbrev pub ParkedNamed : Type 0
-ParkedNamed = (w : World) → Reached w → (c : CapId) (x : TaskId) → answer w.table (park c x) ≡ parked Parked → ParkedOn w c x
+ParkedNamed = (w : World) → Reached w → (c : CapId) (x : TaskId) → answer w.table (park c x) ≡ parked (Ok None) → ParkedOn w c x

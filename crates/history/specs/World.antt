@@ -1,6 +1,6 @@
 -- Demand 3: "Take any sequence of calls from one fresh table, and number channels by successful creation." A world is the table after
 -- such a sequence, beside the bookkeeping of numbers that no code has; only a successful creation's answer moves it.
-use Rattle.std.specs.Prelude.{◌≡◌, true, List, [], ◌∷◌, ℕ, suc, eqb}
+use Rattle.std.specs.Prelude.{◌≡◌, true, List, [], ◌∷◌, ℕ, suc, eqb, Err, Ok, Result}
 use Rattle.laws.specs.Pick.{pick}
 use Rattle.cap.specs.Id.{index_of}
 use Rattle.cap.specs.declared.CapId.{CapId}
@@ -9,9 +9,9 @@ use Rattle.ipc_rules.specs.Make.{fresh_of, in_range}
 use Rattle.ipc_rules.specs.declared.state.Channel.{Channel}
 use Rattle.ipc_rules.specs.declared.state.Sizes.{Sizes}
 use Rattle.ipc_rules.specs.declared.state.Table.{Table}
-use Rattle.ipc_rules.specs.declared.answers.CreateAnswer.{CreateAnswer}
-use Rattle.ipc_rules.specs.declared.answers.CreateAnswer.TheVariants.{Created, NoMailbox, NoEndpoint, BadTable}
+use Rattle.ipc_rules.specs.declared.answers.CreateError.TheVariants.{NoMailbox, NoEndpoint, BadTable}
 use Rattle.history.specs.Calls.{Call, Answer, created, sent, received, parked, measured, revoked, registered, released, held, cleared, noted, counted, answer, after}
+use Rattle.ipc_rules.specs.declared.answers.CreateError.{CreateError}
 
 pub record World : Type 0 where
   pub table : Table
@@ -26,11 +26,11 @@ unfoldable pub but : (ℕ → ℕ) → ℕ → ℕ → ℕ → ℕ
 but f k v j = pick (eqb j k) v (f j)
 
 -- one thing where a creation was refused, another by the channel's ids where it succeeded
-unfoldable pub if_created : {A : Type 0} → CreateAnswer → A → (Channel → A) → A
-if_created (Created c) a f = f c
-if_created NoMailbox a f = a
-if_created NoEndpoint a f = a
-if_created BadTable a f = a
+unfoldable pub if_created : {A : Type 0} → Result Channel CreateError → A → (Channel → A) → A
+if_created (Ok c) a f = f c
+if_created (Err NoMailbox) a f = a
+if_created (Err NoEndpoint) a f = a
+if_created (Err BadTable) a f = a
 
 -- the same over every answer: only a creation's can be a successful one's
 unfoldable pub on_creation : {A : Type 0} → Answer → A → (Channel → A) → A

@@ -9,9 +9,11 @@ use cap::{CapId, Slot};
 use edgecalls::channels;
 use edgescript::operands::at;
 use edgescript::print;
-use ipc_rules::answers::Registering;
+use ipc_rules::answers::RegisterAnswer;
 use ipc_rules::state::{Refusals, Table};
 use manifest::{AgentEntry, Binding};
+use shown::{Answer, Answered};
+use std::array;
 
 const PRESENT: u64 = 4294967296;
 
@@ -30,25 +32,16 @@ fn record(w: &[u64], i: usize) -> Slot {
 }
 
 fn records(w: &[u64]) -> [Slot; MOST] {
-    let a = record(w, 0);
-    let b = record(w, 1);
-    let c = record(w, 2);
-    let d = record(w, 3);
-    let e = record(w, 4);
-    let f = record(w, 5);
-    [a, b, c, d, e, f]
+    array::from_fn(|i| record(w, i))
 }
 
 fn at_most(n: usize) -> usize
     ensures { result ≤ 6 }
 {
-    if n < MOST {
-        return n;
-    }
-    MOST
+    n.min(MOST)
 }
 
-fn register_first(t: Table, slots: [Slot; MOST], n: usize) -> Registering
+fn register_first(t: Table, slots: [Slot; MOST], n: usize) -> Answered<RegisterAnswer, Table>
     requires { n ≤ 6 }
     ensures { result ≡ register_slots t (take n slots) }
 {
@@ -78,8 +71,7 @@ pub(crate) fn note_state(mut r: Refusals) -> Refusals
 
 fn register<P: Print>(to: &P, t: Table, w: &[u64]) -> Table {
     let x = register_first(t, records(w), at_most(w.len()));
-    let a = x.answer;
-    print::answer(to, a.shown());
+    print::answer(to, x.answer.shown());
     x.table
 }
 

@@ -4,7 +4,10 @@
 #![tactic(auto)]
 
 use edgecalls::channels;
-use edgescript::{operands, print, script};
+use edgescript::script;
+use ipc_rules::state::Table as Channels;
+use irqcap::Table as Irqs;
+use taskcap::Table as Tasks;
 
 mod binding;
 mod lending;
@@ -12,25 +15,29 @@ mod mints;
 mod op;
 mod wrap;
 
-fn main(rt: HostRuntime) {
-    let mut reader = rt.stdin();
-    let mut table = channels::fresh();
-    let mut tasks = taskcap::new();
-    let mut irqs = irqcap::new();
-    for _ in 0..script::MOST_CALLS {
-        let mut words = [0u64; script::ROOM];
-        let n = script::call(&mut reader, &rt, &mut words);
-        if n == 0 {
-            return;
-        }
-        let line = &words[..n];
-        let op = operands::byte(line, 0);
-        let w = operands::rest(line, 1);
-        tasks = mints::tasks(&rt, op, tasks, w);
-        irqs = mints::irqs(&rt, op, irqs, w);
-        channels::look(&rt, op, table, w);
-        table = lending::call(&rt, op, table, w);
-        binding::call(&rt, op, w);
-        print::end(&rt);
+// What the calls are made on.
+#[derive(Clone, Copy)]
+struct All {
+    channels: Channels,
+    tasks: Tasks,
+    irqs: Irqs,
+}
+
+impl script::Tables for All {
+    fn call<P: Print>(&mut self, to: &P, op: u8, w: &[u64]) {
+        self.tasks = mints::tasks(to, op, self.tasks, w);
+        self.irqs = mints::irqs(to, op, self.irqs, w);
+        channels::look(to, op, self.channels, w);
+        self.channels = lending::call(to, op, self.channels, w);
+        binding::call(to, op, w);
     }
+}
+
+fn main(rt: HostRuntime) {
+    let mut all = All {
+        channels: channels::fresh(),
+        tasks: taskcap::new(),
+        irqs: irqcap::new(),
+    };
+    script::play(&mut rt.stdin(), &rt, &mut all);
 }

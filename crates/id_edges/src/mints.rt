@@ -5,57 +5,46 @@ use edgescript::operands::{id, long};
 use edgescript::print;
 use irqcap::Table as Irqs;
 use logread::op as logged;
+use shown::Answer;
 use taskcap::Table as Tasks;
 
 // Entry 0 of a fresh table minted and ended 65,534 times.
 fn worn() -> Tasks {
     let mut t = taskcap::new();
     for _ in 0..65534 {
-        let m = taskcap::mint(t, 7);
-        let minted = m.table;
-        let r = taskcap::revoke_task(minted, 7);
-        let ended = r.table;
-        t = ended;
+        let minted = taskcap::mint(t, 7).table;
+        t = taskcap::revoke_task(minted, 7).table;
     }
     t
 }
 
 pub(crate) fn tasks<P: Print>(to: &P, op: u8, t: Tasks, w: &[u64]) -> Tasks {
-    match op {
+    let (shown, after) = match op {
         logged::TASK_MINT => {
             let x = taskcap::mint(t, long(w, 0));
-            let a = x.answer;
-            print::answer(to, a.shown());
-            x.table
+            (x.answer.shown(), x.table)
         }
-        logged::TASK_LOOKUP => {
-            let a = taskcap::lookup(t, id(w, 0));
-            print::answer(to, a.shown());
-            t
-        }
+        logged::TASK_LOOKUP => (taskcap::lookup(t, id(w, 0)).shown(), t),
         logged::TASK_END => {
             let x = taskcap::revoke_task(t, long(w, 0));
-            print::answer(to, taskcap::revoke_shown(x.count));
-            x.table
+            (taskcap::revoke_shown(x.count), x.table)
         }
-        op::WEAR => worn(),
-        _ => t,
-    }
+        op::WEAR => return worn(),
+        _ => return t,
+    };
+    print::answer(to, shown);
+    after
 }
 
 pub(crate) fn irqs<P: Print>(to: &P, op: u8, t: Irqs, w: &[u64]) -> Irqs {
-    match op {
+    let (shown, after) = match op {
         logged::IRQ_MINT => {
             let x = irqcap::mint(t, long(w, 0));
-            let a = x.answer;
-            print::answer(to, a.shown());
-            x.table
+            (x.answer.shown(), x.table)
         }
-        logged::IRQ_LOOKUP => {
-            let a = irqcap::lookup(t, id(w, 0));
-            print::answer(to, a.shown());
-            t
-        }
-        _ => t,
-    }
+        logged::IRQ_LOOKUP => (irqcap::lookup(t, id(w, 0)).shown(), t),
+        _ => return t,
+    };
+    print::answer(to, shown);
+    after
 }

@@ -11,20 +11,21 @@ ghost use Rattle.ipc_sound.specs.Border.{create_call, send_call, recv_call, park
 use cap::{CapId, Slot};
 pub use ipc_life::making::new;
 use ipc_rules::answers::{
-    ClearAnswer, Clearing, CreateAnswer, Creation, HoldersAnswer, NoteAnswer, Noting, ParkAnswer,
-    Parking, QueuedAnswer, Receiving, RecvAnswer, RefusalsAnswer, RegisterAnswer, Registering,
-    ReleaseAnswer, Releasing, RevokeAnswer, Revoking, SendAnswer, Sending, WhyAnswer,
+    CapError, ClearAnswer, CreateAnswer, CreateError, HoldersAnswer, NoteAnswer, ParkAnswer,
+    ParkError, QueuedAnswer, RecvAnswer, RecvError, RefusalsAnswer, RegisterAnswer, RegisterError,
+    Releasing, RevokeAnswer, SendAnswer, SendError, TableError, WhyAnswer, WhyError,
 };
 use ipc_rules::opening::Asked;
 use ipc_rules::state::{NOBODY, Payload, Table, TaskId};
+use shown::Answered;
 
 // A channel whose waiter is not cancelled when the last send hold goes.
-pub fn create_channel(t: Table) -> Creation
+pub fn create_channel(t: Table) -> Answered<CreateAnswer, Table>
     ensures { result ≡ create_call t false }
 {
     if !ipc_sound::sound(t) {
-        return Creation {
-            answer: CreateAnswer::BadTable,
+        return Answered {
+            answer: Err(CreateError::BadTable),
             table: t,
         };
     }
@@ -32,12 +33,12 @@ pub fn create_channel(t: Table) -> Creation
 }
 
 // A channel whose waiter is.
-pub fn create_channel_ephemeral(t: Table) -> Creation
+pub fn create_channel_ephemeral(t: Table) -> Answered<CreateAnswer, Table>
     ensures { result ≡ create_call t true }
 {
     if !ipc_sound::sound(t) {
-        return Creation {
-            answer: CreateAnswer::BadTable,
+        return Answered {
+            answer: Err(CreateError::BadTable),
             table: t,
         };
     }
@@ -45,12 +46,12 @@ pub fn create_channel_ephemeral(t: Table) -> Creation
 }
 
 // Queues what a sender hands in, stamped with its row, and answers the task to wake.
-pub fn send(t: Table, cap: CapId, payload: Payload, row: usize) -> Sending
+pub fn send(t: Table, cap: CapId, payload: Payload, row: usize) -> Answered<SendAnswer, Table>
     ensures { result ≡ send_call t cap payload row }
 {
     if !ipc_sound::sound(t) {
-        return Sending {
-            answer: SendAnswer::BadTable,
+        return Answered {
+            answer: Err(SendError::BadTable),
             table: t,
         };
     }
@@ -58,12 +59,12 @@ pub fn send(t: Table, cap: CapId, payload: Payload, row: usize) -> Sending
 }
 
 // Takes the oldest message.
-pub fn try_recv(t: Table, cap: CapId) -> Receiving
+pub fn try_recv(t: Table, cap: CapId) -> Answered<RecvAnswer, Table>
     ensures { result ≡ recv_call t cap }
 {
     if !ipc_sound::sound(t) {
-        return Receiving {
-            answer: RecvAnswer::BadTable,
+        return Answered {
+            answer: Err(RecvError::BadTable),
             table: t,
         };
     }
@@ -71,12 +72,12 @@ pub fn try_recv(t: Table, cap: CapId) -> Receiving
 }
 
 // Takes the oldest message, or waits for one.
-pub fn park(t: Table, cap: CapId, me: TaskId) -> Parking
+pub fn park(t: Table, cap: CapId, me: TaskId) -> Answered<ParkAnswer, Table>
     ensures { result ≡ park_call t cap me }
 {
     if !ipc_sound::sound(t) {
-        return Parking {
-            answer: ParkAnswer::BadTable,
+        return Answered {
+            answer: Err(ParkError::BadTable),
             table: t,
         };
     }
@@ -88,7 +89,7 @@ pub fn queued(t: Table, cap: CapId) -> QueuedAnswer
     ensures { result ≡ queued_call t cap }
 {
     if !ipc_sound::sound(t) {
-        return QueuedAnswer::BadTable;
+        return Err(CapError::BadTable);
     }
     ipc_queue::inner::queued(t, cap)
 }
@@ -98,7 +99,7 @@ pub fn why_shut(t: Table, cap: CapId, asked: Asked) -> WhyAnswer
     ensures { result ≡ why_call t cap asked }
 {
     if !ipc_sound::sound(t) {
-        return WhyAnswer::BadTable;
+        return Err(WhyError::BadTable);
     }
     ipc_queue::inner::why_shut(t, cap, asked)
 }
@@ -108,18 +109,18 @@ pub fn send_holders(t: Table, cap: CapId) -> HoldersAnswer
     ensures { result ≡ holders_call t cap }
 {
     if !ipc_sound::sound(t) {
-        return HoldersAnswer::BadTable;
+        return Err(CapError::BadTable);
     }
     ipc_queue::inner::send_holders(t, cap)
 }
 
 // A hold for each id of the list that opens for send.
-pub fn register_holds(t: Table, list: &[u64]) -> Registering
+pub fn register_holds(t: Table, list: &[u64]) -> Answered<RegisterAnswer, Table>
     ensures { result ≡ register_call t list.now }
 {
     if !ipc_sound::sound(t) {
-        return Registering {
-            answer: RegisterAnswer::BadTable,
+        return Answered {
+            answer: Err(RegisterError::BadTable),
             table: t,
         };
     }
@@ -132,7 +133,7 @@ pub fn release_holds(t: Table, slots: [Slot; 4]) -> Releasing
 {
     if !ipc_sound::sound(t) {
         return Releasing {
-            answer: ReleaseAnswer::BadTable,
+            answer: Err(TableError::BadTable),
             waiters: [NOBODY; 4],
             table: t,
         };
@@ -141,12 +142,12 @@ pub fn release_holds(t: Table, slots: [Slot; 4]) -> Releasing
 }
 
 // Ends a channel, by either end, and answers its waiter.
-pub fn revoke_channel(t: Table, cap: CapId) -> Revoking
+pub fn revoke_channel(t: Table, cap: CapId) -> Answered<RevokeAnswer, Table>
     ensures { result ≡ revoke_call t cap }
 {
     if !ipc_sound::sound(t) {
-        return Revoking {
-            answer: RevokeAnswer::BadTable,
+        return Answered {
+            answer: Err(CapError::BadTable),
             table: t,
         };
     }
@@ -154,12 +155,12 @@ pub fn revoke_channel(t: Table, cap: CapId) -> Revoking
 }
 
 // Takes a task out of every mailbox that it waits on.
-pub fn clear_waiter(t: Table, task: TaskId) -> Clearing
+pub fn clear_waiter(t: Table, task: TaskId) -> Answered<ClearAnswer, Table>
     ensures { result ≡ clear_call t task }
 {
     if !ipc_sound::sound(t) {
-        return Clearing {
-            answer: ClearAnswer::BadTable,
+        return Answered {
+            answer: Err(TableError::BadTable),
             table: t,
         };
     }
@@ -167,12 +168,12 @@ pub fn clear_waiter(t: Table, task: TaskId) -> Clearing
 }
 
 // Counts a refusal for want of authority that was found elsewhere.
-pub fn note_authority_refusal(t: Table) -> Noting
+pub fn note_authority_refusal(t: Table) -> Answered<NoteAnswer, Table>
     ensures { result ≡ note_authority_call t }
 {
     if !ipc_sound::sound(t) {
-        return Noting {
-            answer: NoteAnswer::BadTable,
+        return Answered {
+            answer: Err(TableError::BadTable),
             table: t,
         };
     }
@@ -180,12 +181,12 @@ pub fn note_authority_refusal(t: Table) -> Noting
 }
 
 // Counts a refusal for a state that should not be, found elsewhere.
-pub fn note_state_refusal(t: Table) -> Noting
+pub fn note_state_refusal(t: Table) -> Answered<NoteAnswer, Table>
     ensures { result ≡ note_state_call t }
 {
     if !ipc_sound::sound(t) {
-        return Noting {
-            answer: NoteAnswer::BadTable,
+        return Answered {
+            answer: Err(TableError::BadTable),
             table: t,
         };
     }
@@ -197,8 +198,8 @@ pub fn refusals(t: Table) -> RefusalsAnswer
     ensures { result ≡ refusals_call t }
 {
     if !ipc_sound::sound(t) {
-        return RefusalsAnswer::BadTable;
+        return Err(TableError::BadTable);
     }
     let counts = t.counters.refusals;
-    RefusalsAnswer::Counts(counts)
+    Ok(counts)
 }

@@ -3,14 +3,16 @@ ghost use Rattle.std.specs.Prelude.{◌≡◌};
 ghost use Rattle.ipc_rules.specs.Sound.{Sound};
 ghost use Rattle.ipc_rules.specs.Holds.{registered, registered_all, register_of, release_of};
 
-use cap::{CapRights, Slot};
+use cap::Slot;
 use ipc_parts::mailboxes::{fewer, more, reaps};
 use ipc_parts::opening::open;
-use ipc_rules::answers::{RegisterAnswer, Registering, ReleaseAnswer, Releasing};
-use ipc_rules::opening::Opening;
+use ipc_rules::answers::{RegisterAnswer, RegisterError, Releasing};
+use ipc_rules::opening::{Asked, Opening};
 use ipc_rules::state::{MAX_ENDPOINTS, NOBODY, Table};
+use shown::Answered;
 
 // One hold, where the slot's id opens for send.
+#[tactic(auto, using(ipc_rules::proofs::Openings::open_box))]
 pub fn register_one(mut t: Table, slot: Slot) -> Table
     requires { Sound t }
     ensures { result ≡ registered t slot }
@@ -18,10 +20,9 @@ pub fn register_one(mut t: Table, slot: Slot) -> Table
     if !slot.present {
         return t;
     }
-    let id = slot.id;
-    let i = id.index() as usize;
+    let i = slot.id.index() as usize;
     let ep = t.endpoints[i % MAX_ENDPOINTS];
-    let Opening::Opens(k) = open(i < t.sizes.endpoints, ep, id, CapRights::SEND) else {
+    let Opening::Opens(k) = open(i < t.sizes.endpoints, ep, slot.id, Asked::Send) else {
         return t;
     };
     t.mailboxes[k] = more(t.mailboxes[k]);
@@ -33,70 +34,59 @@ pub fn register_four(mut t: Table, slots: [Slot; 4]) -> Table
     requires { Sound t }
     ensures { result ≡ registered_all t slots }
 {
-    let mut i: usize = 0;
-    while i < 4 {
-        t = register_one(t, slots[i]);
-        i += 1;
+    for slot in slots {
+        t = register_one(t, slot);
     }
     t
 }
 
 // One hold for each present id of the list that opens for send.
-pub fn register_holds(mut t: Table, list: &[u64]) -> Registering
+pub fn register_holds(mut t: Table, list: &[u64]) -> Answered<RegisterAnswer, Table>
     requires { Sound t }
     ensures { result ≡ register_of t list.now }
 {
     if !cap::words_read(list) {
-        return Registering {
-            answer: RegisterAnswer::BadWord,
+        return Answered {
+            answer: Err(RegisterError::BadWord),
             table: t,
         };
     }
-    let mut n: usize = 0;
-    while n < list.len() {
-        t = register_one(t, cap::slot_at(list, n));
-        n += 1;
+    for word in list {
+        t = register_one(t, cap::slot_of(*word));
     }
-    Registering {
-        answer: RegisterAnswer::Registered,
+    Answered {
+        answer: Ok(()),
         table: t,
     }
 }
 
 // One hold off for each of four slots; the waiters of ephemeral mailboxes that lost their last one, from the first place on.
+#[tactic(auto, using(ipc_rules::proofs::Openings::open_box))]
 pub fn release_holds(mut t: Table, slots: [Slot; 4]) -> Releasing
     requires { Sound t }
     ensures { result ≡ release_of t slots }
 {
-    let nobody = NOBODY;
-    let mut waiters = [nobody; 4];
-    let mut woken: usize = 0;
-    let mut n: usize = 0;
-    while n < 4 {
-        let slot = slots[n];
-        n += 1;
+    let mut waiters = [NOBODY; 4];
+    let mut woken = 0;
+    for slot in slots {
         if !slot.present {
             continue;
         }
-        let id = slot.id;
-        let i = id.index() as usize;
+        let i = slot.id.index() as usize;
         let ep = t.endpoints[i % MAX_ENDPOINTS];
-        let Opening::Opens(k) = open(i < t.sizes.endpoints, ep, id, CapRights::SEND) else {
+        let Opening::Opens(k) = open(i < t.sizes.endpoints, ep, slot.id, Asked::Send) else {
             continue;
         };
-        let mut b = fewer(t.mailboxes[k]);
-        if reaps(b) {
-            let waiter = b.waiter;
-            waiters[woken] = waiter;
+        let b = &mut t.mailboxes[k];
+        *b = fewer(*b);
+        if reaps(*b) {
+            waiters[woken] = b.waiter;
             woken += 1;
-            b.waiter = nobody;
-            t.mailboxes[k] = b;
-            continue;
+            b.waiter = NOBODY;
         }
-        t.mailboxes[k] = b;
     }
     Releasing {
-        answer: ReleaseAnswer::Released,
+        answer: Ok(()),
         waiters,
         table: t,
     }

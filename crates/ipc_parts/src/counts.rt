@@ -1,13 +1,11 @@
 // A count, of refusals or of holds.
 ghost use Rattle.std.specs.Prelude.{◌≡◌};
-ghost use Rattle.ipc_rules.specs.Counts.{raised as raisedOf};
+ghost use Rattle.ipc_rules.specs.Counts.{raised};
 
 // One more; a count stops at its greatest value.
+#[tactic(auto, using(laws::proofs::Cases::cases), unfolding(ipc_rules::specs::Counts::raised))]
 pub fn raised(n: u32) -> u32
-    ensures { result ≡ raisedOf n }
+    ensures { result ≡ raised n }
 {
-    if n < 4294967295 {
-        return n + 1;
-    }
-    4294967295
+    n.saturating_add(1)
 }

@@ -1,8 +1,8 @@
 // Steps of a mailbox that is known to have room, or a message; an end of one that is known to be there; and a message stamped with a row below 54.
 ghost use Rattle.std.specs.Prelude.{◌≡◌, ◌<◌};
-ghost use Rattle.ipc_rules.specs.State.{new_endpoint, stamped as stampedOf};
-ghost use Rattle.ipc_rules.specs.Send.{filled as filledOf};
-ghost use Rattle.ipc_rules.specs.Receive.{drained as drainedOf};
+ghost use Rattle.ipc_rules.specs.State.{new_endpoint, stamped};
+ghost use Rattle.ipc_rules.specs.Send.{filled};
+ghost use Rattle.ipc_rules.specs.Receive.{drained};
 
 use cap::CapRights;
 use ipc_rules::state::{Endpoint, Mailbox, Message, NOBODY, Payload};
@@ -10,7 +10,7 @@ use ipc_rules::state::{Endpoint, Mailbox, Message, NOBODY, Payload};
 // What a sender handed in, stamped with the sending row.
 pub fn stamped(payload: Payload, row: usize) -> Message
     requires { row < 54 }
-    ensures { result ≡ stampedOf payload row }
+    ensures { result ≡ stamped payload row }
 {
     Message {
         tag: payload.tag,
@@ -23,18 +23,17 @@ pub fn stamped(payload: Payload, row: usize) -> Message
 // One message more in a ring of depth `d`; the waiter is taken out.
 pub fn filled(mut b: Mailbox, d: usize) -> Mailbox
     requires { (b.ring.head < d) × (b.ring.len < d) }
-    ensures { result ≡ filledOf d b }
+    ensures { result ≡ filled d b }
 {
     b.ring = ring::inner::put_in(b.ring, d);
-    let nobody = NOBODY;
-    b.waiter = nobody;
+    b.waiter = NOBODY;
     b
 }
 
 // A ring of depth `d` without its oldest message.
 pub fn drained(mut b: Mailbox, d: usize) -> Mailbox
     requires { (b.ring.tail < d) × (0 < b.ring.len) }
-    ensures { result ≡ drainedOf d b }
+    ensures { result ≡ drained d b }
 {
     b.ring = ring::inner::take_out(b.ring, d);
     b

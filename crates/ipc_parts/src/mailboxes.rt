@@ -1,7 +1,7 @@
 // A mailbox as creation makes it, and its holds.
 ghost use Rattle.std.specs.Prelude.{◌≡◌};
 ghost use Rattle.ipc_rules.specs.State.{new_mailbox};
-ghost use Rattle.ipc_rules.specs.Holds.{more as moreOf, fewer as fewerOf, reaps as reapsOf};
+ghost use Rattle.ipc_rules.specs.Holds.{more, fewer, reaps};
 
 use crate::counts::raised;
 use ipc_rules::state::{FRESH_MAILBOX, Mailbox};
@@ -16,25 +16,22 @@ pub fn new_mailbox(ephemeral: bool) -> Mailbox
 }
 
 pub fn more(mut b: Mailbox) -> Mailbox
-    ensures { result ≡ moreOf b }
+    ensures { result ≡ more b }
 {
     b.send_holders = raised(b.send_holders);
     b
 }
 
 pub fn fewer(mut b: Mailbox) -> Mailbox
-    ensures { result ≡ fewerOf b }
+    ensures { result ≡ fewer b }
 {
-    if 0 < b.send_holders {
-        b.send_holders = b.send_holders - 1;
-        return b;
-    }
+    b.send_holders = b.send_holders.saturating_sub(1);
     b
 }
 
 // Whether the waiter is to be taken out: the last hold of an ephemeral mailbox has gone.
 pub fn reaps(b: Mailbox) -> bool
-    ensures { result ≡ reapsOf b }
+    ensures { result ≡ reaps b }
 {
-    (b.send_holders == 0) & b.ephemeral & b.waiter.present
+    b.send_holders == 0 && b.ephemeral && b.waiter.present
 }

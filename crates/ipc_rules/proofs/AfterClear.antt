@@ -1,4 +1,5 @@
 -- `clear_waiter`, `clear_of`: the task waits nowhere, and all else is as it was. Assumes nothing.
+use Rattle.std.specs.Prelude.{Ok, Result}
 use mathlib.Core.Path.{◌≡◌, refl, ap, ◌∙◌}
 use mathlib.Core.List.{map}
 use Prim.Native.Nat.{ℕ}
@@ -13,13 +14,13 @@ use Rattle.ipc_rules.specs.Views.{queue_of, waiter_of, hold_count, ephemeral_of,
 use Rattle.ipc_rules.specs.declared.state.Mailbox.{Mailbox}
 use Rattle.ipc_rules.specs.declared.state.TaskId.{TaskId}
 use Rattle.ipc_rules.specs.declared.state.Table.{Table}
-use Rattle.ipc_rules.specs.declared.answers.Clearing.{Clearing}
-use Rattle.ipc_rules.specs.declared.answers.ClearAnswer.TheVariants.{Cleared}
 use Rattle.ipc_rules.proofs.Tasks.{on_waits, waits_on_lem}
 use Rattle.ipc_rules.proofs.Changes.{mailboxes_steady}
+use Rattle.ipc_rules.specs.declared.answers.TableError.{TableError}
+use Rattle.shown.specs.declared.Answered.{Answered}
 
-pub record Clears (t : Table) (task : TaskId) (r : Clearing) : Type 0 where
-  pub answer : r.answer ≡ Cleared (count (λ k. waits_on (mailbox_at t k) task) 32)
+pub record Clears (t : Table) (task : TaskId) (r : Answered (Result ℕ TableError) Table) : Type 0 where
+  pub answer : r.answer ≡ Ok (count (λ k. waits_on (mailbox_at t k) task) 32)
   pub gone : (k : ℕ) → waiter_of t k ≡ waiting task → waiter_of r.table k ≡ nobody
   pub stays : (k : ℕ) → (waiter_of t k ≡ waiting task → ⊥) → waiter_of r.table k ≡ waiter_of t k
   pub queue : (k : ℕ) → queue_of r.table k ≡ queue_of t k

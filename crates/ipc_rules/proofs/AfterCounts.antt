@@ -1,4 +1,5 @@
 -- The counts: each call raises the one that its answer's number has, and a note call or a refusal leaves all else as it was. Assumes nothing.
+use Rattle.std.specs.Prelude.{Option, Result}
 use mathlib.Core.Path.{◌≡◌, refl}
 use Prim.Native.Nat.{ℕ}
 use Rattle.laws.specs.Pick.{pick}
@@ -14,15 +15,18 @@ use Rattle.ipc_rules.specs.Views.{counts_by, OnlyCounts}
 use Rattle.ipc_rules.specs.declared.state.Payload.{Payload}
 use Rattle.ipc_rules.specs.declared.state.TaskId.{TaskId}
 use Rattle.ipc_rules.specs.declared.state.Table.{Table}
-use Rattle.ipc_rules.specs.declared.answers.Sending.{Sending}
-use Rattle.ipc_rules.specs.declared.answers.Receiving.{Receiving}
-use Rattle.ipc_rules.specs.declared.answers.Parking.{Parking}
-use Rattle.ipc_rules.specs.declared.answers.Revoking.{Revoking}
 use Rattle.ipc_rules.proofs.Changes.{counts_anew}
 use Rattle.ipc_rules.proofs.AfterSend as send
 use Rattle.ipc_rules.proofs.AfterReceive as recv
 use Rattle.ipc_rules.proofs.AfterPark as park
 use Rattle.ipc_rules.proofs.AfterRevoke as revoke
+use Rattle.ipc_rules.specs.declared.state.Waiter.{Waiter}
+use Rattle.ipc_rules.specs.declared.answers.SendError.{SendError}
+use Rattle.shown.specs.declared.Answered.{Answered}
+use Rattle.ipc_rules.specs.declared.state.Message.{Message}
+use Rattle.ipc_rules.specs.declared.answers.RecvError.{RecvError}
+use Rattle.ipc_rules.specs.declared.answers.ParkError.{ParkError}
+use Rattle.ipc_rules.specs.declared.answers.CapError.{CapError}
 
 -- ---- a count alone
 module _ (t : Table) where
@@ -56,7 +60,7 @@ module _ (t : Table) (σ : Sound t) where
   unfolding counts_by pick
   send_counts c p row = by (send.send_ways t c p row σ)
     where
-      by : {r : Sending} → send.SendWays t c p row r → r.table.counters.refusals ≡ counts_by (send_number r.answer) t.counters.refusals
+      by : {r : Answered (Result Waiter SendError) Table} → send.SendWays t c p row r → r.table.counters.refusals ≡ counts_by (send_number r.answer) t.counters.refusals
       by (send.bad_row _ q) = rw q
       by (send.bad_cap _ _ q) = rw q
       by (send.full _ _ _ _ q) = rw q
@@ -66,7 +70,7 @@ module _ (t : Table) (σ : Sound t) where
   unfolding counts_by pick
   recv_counts c = by (recv.recv_ways t c σ)
     where
-      by : {r : Receiving} → recv.RecvWays t c r → r.table.counters.refusals ≡ counts_by (recv_number r.answer) t.counters.refusals
+      by : {r : Answered (Result Message RecvError) Table} → recv.RecvWays t c r → r.table.counters.refusals ≡ counts_by (recv_number r.answer) t.counters.refusals
       by (recv.bad_cap _ q) = rw q
       by (recv.empty _ _ _ q) = rw q
       by (recv.received _ _ _ a g) = rw a g.rest.counts
@@ -75,7 +79,7 @@ module _ (t : Table) (σ : Sound t) where
   unfolding counts_by pick
   park_counts c task = by (park.park_ways t c task σ)
     where
-      by : {r : Parking} → park.ParkWays t c task r → r.table.counters.refusals ≡ counts_by (park_number r.answer) t.counters.refusals
+      by : {r : Answered (Result (Option Message) ParkError) Table} → park.ParkWays t c task r → r.table.counters.refusals ≡ counts_by (park_number r.answer) t.counters.refusals
       by (park.bad_cap _ q) = rw q
       by (park.given _ _ _ a g) = rw a g.rest.counts
       by (park.cancelled _ _ _ _ _ q) = rw q
@@ -86,6 +90,6 @@ module _ (t : Table) (σ : Sound t) where
   unfolding counts_by pick
   revoke_counts c = by (revoke.revoke_ways t c σ)
     where
-      by : {r : Revoking} → revoke.RevokeWays t c r → r.table.counters.refusals ≡ counts_by (revoke_number r.answer) t.counters.refusals
+      by : {r : Answered (Result Waiter CapError) Table} → revoke.RevokeWays t c r → r.table.counters.refusals ≡ counts_by (revoke_number r.answer) t.counters.refusals
       by (revoke.bad_cap _ q) = rw q
       by (revoke.revoked _ _ _ a x) = rw a x.counts

@@ -1,11 +1,11 @@
 -- Creation, `create_of`: its ways, and what each changes and leaves. Assumes nothing.
+use Rattle.std.specs.Prelude.{None, Some, Err, Ok, Result}
 use mathlib.Core.Path.{◌≡◌, refl, ap}
 use mathlib.Core.Bool.{Bool, true}
 use mathlib.Core.List.{[]}
 use Prim.Native.Nat.{ℕ, ◌+◌}
 use native.Mathlib.Omega.{arith}
 use lib.Seq.{get_or-set_other}
-use Rattle.laws.specs.declared.Found.TheVariants.{At, Nowhere}
 use Rattle.laws.proofs.Cases.{all_found, not_both}
 use Rattle.cap.specs.Id.{id_of}
 use Rattle.cap.specs.declared.CapId.{CapId}
@@ -18,17 +18,19 @@ use Rattle.ipc_rules.specs.Create.{free_mailbox, free_endpoint, with_channel, cr
 use Rattle.ipc_rules.specs.Views.{queue_of, waiter_of, hold_count, ephemeral_of, Alike}
 use Rattle.ipc_rules.specs.declared.state.Mailbox.{Mailbox}
 use Rattle.ipc_rules.specs.declared.state.Table.{Table}
-use Rattle.ipc_rules.specs.declared.answers.Creation.{Creation}
-use Rattle.ipc_rules.specs.declared.answers.CreateAnswer.TheVariants.{Created, NoMailbox, NoEndpoint}
+use Rattle.ipc_rules.specs.declared.answers.CreateError.TheVariants.{NoMailbox, NoEndpoint}
 use Rattle.ipc_rules.specs.declared.opening.Opening.TheVariants.{Opens}
 use Rattle.ipc_rules.proofs.Openings.{opens_live}
 use Rattle.ipc_rules.proofs.Changes.{queue_none, alike_of, alike_same}
 use Rattle.ipc_rules.proofs.KeepsCreate.{Free, found_free, created_box}
 use Rattle.ipc_rules.proofs.NewChannel.{NewOpenings, new_openings}
+use Rattle.ipc_rules.specs.declared.state.Channel.{Channel}
+use Rattle.ipc_rules.specs.declared.answers.CreateError.{CreateError}
+use Rattle.shown.specs.declared.Answered.{Answered}
 
 -- a channel in mailbox k, with its send end at endpoint s and its receive end at r
-pub record Creates (t : Table) (ephemeral : Bool) (k s r : ℕ) (c : Creation) : Type 0 where
-  pub answer : c.answer ≡ Created (record { send = id_of s t.counters.next_gen; recv = id_of r t.counters.next_gen })
+pub record Creates (t : Table) (ephemeral : Bool) (k s r : ℕ) (c : Answered (Result Channel CreateError) Table) : Type 0 where
+  pub answer : c.answer ≡ Ok (record { send = id_of s t.counters.next_gen; recv = id_of r t.counters.next_gen })
   -- the mailbox and the two endpoints were dead, so that nothing opened it
   pub took : Free t k s r
   pub unopened : (d : CapId) (need : CapRights) → opening_of t d need ≡ Opens k → ⊥
@@ -44,10 +46,10 @@ pub record Creates (t : Table) (ephemeral : Bool) (k s r : ℕ) (c : Creation) :
   pub counts : c.table.counters.refusals ≡ t.counters.refusals
 
 -- no free mailbox, not two free endpoints, or a channel
-pub data CreateWays (t : Table) (ephemeral : Bool) (c : Creation) : Type 0 where
-  no_mailbox : free_mailbox t ≡ Nowhere → c ≡ record { answer = NoMailbox; table = t } → CreateWays t ephemeral c
-  no_endpoint : (k : ℕ) → free_mailbox t ≡ At k → ((s : ℕ) → free_endpoint t 0 ≡ At s → free_endpoint t (s + 1) ≡ Nowhere) →
-      c ≡ record { answer = NoEndpoint; table = t } → CreateWays t ephemeral c
+pub data CreateWays (t : Table) (ephemeral : Bool) (c : Answered (Result Channel CreateError) Table) : Type 0 where
+  no_mailbox : free_mailbox t ≡ None → c ≡ record { answer = Err NoMailbox; table = t } → CreateWays t ephemeral c
+  no_endpoint : (k : ℕ) → free_mailbox t ≡ Some k → ((s : ℕ) → free_endpoint t 0 ≡ Some s → free_endpoint t (s + 1) ≡ None) →
+      c ≡ record { answer = Err NoEndpoint; table = t } → CreateWays t ephemeral c
   created : (k s r : ℕ) → Creates t ephemeral k s r c → CreateWays t ephemeral c
 
 module _ (t : Table) (ephemeral : Bool) (k s r : ℕ) (σ : Sound t) (x : Free t k s r) where
@@ -57,7 +59,7 @@ module _ (t : Table) (ephemeral : Bool) (k s r : ℕ) (σ : Sound t) (x : Free t
   box : mailbox_at u k ≡ new_mailbox ephemeral
   box = created_box t ephemeral k s r σ x
 
-  creates : Creates t ephemeral k s r (record { answer = Created (record { send = id_of s t.counters.next_gen; recv = id_of r t.counters.next_gen }); table = u })
+  creates : Creates t ephemeral k s r (record { answer = Ok (record { send = id_of s t.counters.next_gen; recv = id_of r t.counters.next_gen }); table = u })
   creates =
       record {
         answer = refl;

@@ -1,4 +1,5 @@
 -- Park, `park_of`: its ways, and what each changes and leaves. Assumes nothing.
+use Rattle.std.specs.Prelude.{Err, None, Ok, Option, Result, Some}
 use mathlib.Core.Path.{◌≡◌, refl, ap}
 use mathlib.Core.Bool.{true, false}
 use mathlib.Core.List.{[]}
@@ -21,14 +22,15 @@ use Rattle.ipc_rules.specs.declared.state.Mailbox.{Mailbox}
 use Rattle.ipc_rules.specs.declared.state.Message.{Message}
 use Rattle.ipc_rules.specs.declared.state.TaskId.{TaskId}
 use Rattle.ipc_rules.specs.declared.state.Table.{Table}
-use Rattle.ipc_rules.specs.declared.answers.Parking.{Parking}
-use Rattle.ipc_rules.specs.declared.answers.ParkAnswer as park
+use Rattle.ipc_rules.specs.declared.answers.ParkError.TheVariants as park
 use Rattle.ipc_rules.specs.declared.opening.Opening.TheVariants.{Opens, Shut}
 use Rattle.ipc_rules.proofs.Openings.{all_opened, opens_live, box_same}
 use Rattle.ipc_rules.proofs.KeepsCalls.{uncancelled}
 use Rattle.ipc_rules.proofs.Tasks.{other_waits_lem, none_other}
 use Rattle.ipc_rules.proofs.AfterReceive.{Gives, taken_gives}
 use Rattle.ipc_rules.proofs.Changes.{queue_none, alike_same, steady_same, counts_anew, mailbox_anew}
+use Rattle.ipc_rules.specs.declared.answers.ParkError.{ParkError}
+use Rattle.shown.specs.declared.Answered.{Answered}
 
 -- mailbox k is one to wait on: no message is there, and where it is ephemeral a send hold is left
 pub record MayWait (t : Table) (k : ℕ) : Type 0 where
@@ -46,14 +48,14 @@ pub record Parks (t : Table) (k : ℕ) (task : TaskId) (u : Table) : Type 0 wher
   pub rest : OnlyMailbox t u k
 
 -- refused for want of the right; the oldest message; no sender is left; another task waits; or the task waits
-pub data ParkWays (t : Table) (c : CapId) (task : TaskId) (r : Parking) : Type 0 where
-  bad_cap : opening_of t c receive_right ≡ Shut → r ≡ record { answer = park.TheVariants.BadCap; table = authority_raised t } → ParkWays t c task r
-  given : (k : ℕ) (m : Message) → opening_of t c receive_right ≡ Opens k → r.answer ≡ park.TheVariants.Given m → Gives t k m r.table → ParkWays t c task r
+pub data ParkWays (t : Table) (c : CapId) (task : TaskId) (r : Answered (Result (Option Message) ParkError) Table) : Type 0 where
+  bad_cap : opening_of t c receive_right ≡ Shut → r ≡ record { answer = Err park.BadCap; table = authority_raised t } → ParkWays t c task r
+  given : (k : ℕ) (m : Message) → opening_of t c receive_right ≡ Opens k → r.answer ≡ Ok (Some m) → Gives t k m r.table → ParkWays t c task r
   cancelled : (k : ℕ) → opening_of t c receive_right ≡ Opens k → queue_of t k ≡ [] → ephemeral_of t k ≡ true → hold_count t k ≡ 0 →
-      r ≡ record { answer = park.TheVariants.Cancelled; table = t } → ParkWays t c task r
+      r ≡ record { answer = Err park.Cancelled; table = t } → ParkWays t c task r
   busy : (k : ℕ) → opening_of t c receive_right ≡ Opens k → MayWait t k → (waiter_of t k).present ≡ true → (waiter_of t k ≡ waiting task → ⊥) →
-      r ≡ record { answer = park.TheVariants.Busy; table = state_raised t } → ParkWays t c task r
-  parked : (k : ℕ) → opening_of t c receive_right ≡ Opens k → MayWait t k → r.answer ≡ park.TheVariants.Parked → Parks t k task r.table → ParkWays t c task r
+      r ≡ record { answer = Err park.Busy; table = state_raised t } → ParkWays t c task r
+  parked : (k : ℕ) → opening_of t c receive_right ≡ Opens k → MayWait t k → r.answer ≡ Ok None → Parks t k task r.table → ParkWays t c task r
 
 -- ---- the task in its place
 module _ (t : Table) (k : ℕ) (task : TaskId) (s : Sound t) (l : mailbox_live t k ≡ true) where

@@ -1,4 +1,5 @@
 -- Try to receive, `recv_of`: its ways, what each changes and leaves, and the message that it gives. Assumes nothing.
+use Rattle.std.specs.Prelude.{Err, Ok, Result}
 use mathlib.Core.Path.{◌≡◌, refl, sym, ap, ◌∙◌}
 use mathlib.Core.Bool.{true}
 use mathlib.Core.List.{[], ◌∷◌}
@@ -19,11 +20,12 @@ use Rattle.ipc_rules.specs.Views.{queue_of, waiter_of, hold_count, ephemeral_of,
 use Rattle.ipc_rules.specs.declared.state.Mailbox.{Mailbox}
 use Rattle.ipc_rules.specs.declared.state.Message.{Message}
 use Rattle.ipc_rules.specs.declared.state.Table.{Table}
-use Rattle.ipc_rules.specs.declared.answers.Receiving.{Receiving}
-use Rattle.ipc_rules.specs.declared.answers.RecvAnswer as recv
+use Rattle.ipc_rules.specs.declared.answers.RecvError.TheVariants as recv
 use Rattle.ipc_rules.specs.declared.opening.Opening.TheVariants.{Opens, Shut}
 use Rattle.ipc_rules.proofs.Openings.{all_opened, opens_live, box_same}
 use Rattle.ipc_rules.proofs.Changes.{queue_none, alike_same, steady_same, counts_anew, mailbox_anew}
+use Rattle.ipc_rules.specs.declared.answers.RecvError.{RecvError}
+use Rattle.shown.specs.declared.Answered.{Answered}
 
 -- m, the oldest message of mailbox k, is taken from it
 pub record Gives (t : Table) (k : ℕ) (m : Message) (u : Table) : Type 0 where
@@ -59,10 +61,10 @@ module _ (t : Table) (k : ℕ) (s : Sound t) (l : mailbox_live t k ≡ true) whe
       }
 
 -- refused for want of the right, nothing there, or the oldest message
-pub data RecvWays (t : Table) (c : CapId) (r : Receiving) : Type 0 where
-  bad_cap : opening_of t c receive_right ≡ Shut → r ≡ record { answer = recv.TheVariants.BadCap; table = authority_raised t } → RecvWays t c r
-  empty : (k : ℕ) → opening_of t c receive_right ≡ Opens k → queue_of t k ≡ [] → r ≡ record { answer = recv.TheVariants.Empty; table = t } → RecvWays t c r
-  received : (k : ℕ) (m : Message) → opening_of t c receive_right ≡ Opens k → r.answer ≡ recv.TheVariants.Received m → Gives t k m r.table → RecvWays t c r
+pub data RecvWays (t : Table) (c : CapId) (r : Answered (Result Message RecvError) Table) : Type 0 where
+  bad_cap : opening_of t c receive_right ≡ Shut → r ≡ record { answer = Err recv.BadCap; table = authority_raised t } → RecvWays t c r
+  empty : (k : ℕ) → opening_of t c receive_right ≡ Opens k → queue_of t k ≡ [] → r ≡ record { answer = Err recv.Empty; table = t } → RecvWays t c r
+  received : (k : ℕ) (m : Message) → opening_of t c receive_right ≡ Opens k → r.answer ≡ Ok m → Gives t k m r.table → RecvWays t c r
 
 pub recv_ways : (t : Table) (c : CapId) → Sound t → RecvWays t c (recv_of t c)
 unfolding recv_of

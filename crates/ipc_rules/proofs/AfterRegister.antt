@@ -1,4 +1,5 @@
 -- Register, `registered`, `registered_all` and `register_of`: what a slot and a list of slots change and leave. Assumes nothing.
+use Rattle.std.specs.Prelude.{Err, Ok, Result, ⊤}
 use mathlib.Core.Path.{◌≡◌, refl, ap, ◌∙◌}
 use mathlib.Core.Bool.{true, false}
 use mathlib.Core.List.{List, [], ◌∷◌}
@@ -17,14 +18,15 @@ use Rattle.ring.specs.Ring.{contents}
 use Rattle.ipc_rules.specs.Views.{queue_of, waiter_of, hold_count, ephemeral_of, held_by, held_in, raised_by, Alike, Steady, OnlyMailbox}
 use Rattle.ipc_rules.specs.declared.state.Mailbox.{Mailbox}
 use Rattle.ipc_rules.specs.declared.state.Table.{Table}
-use Rattle.ipc_rules.specs.declared.answers.Registering.{Registering}
-use Rattle.ipc_rules.specs.declared.answers.RegisterAnswer.TheVariants.{Registered, BadWord}
+use Rattle.ipc_rules.specs.declared.answers.RegisterError.TheVariants.{BadWord}
 use Rattle.ipc_rules.specs.declared.opening.Opening.TheVariants.{Opens, Shut}
 use Rattle.ipc_rules.proofs.Openings.{all_opened, opens_live, hold_opens, box_same}
 use Rattle.ipc_rules.proofs.KeepsCalls.{registered_kept}
 use Rattle.laws.proofs.Bools.{same?}
 use Rattle.ipc_rules.proofs.Held.{held_none, held_one, held_other, held_steady, raised_then}
 use Rattle.ipc_rules.proofs.Changes.{alike_same, steady_same, steady_then, mailbox_anew}
+use Rattle.ipc_rules.specs.declared.answers.RegisterError.{RegisterError}
+use Rattle.shown.specs.declared.Answered.{Answered}
 
 -- mailbox k has one hold more, stopping at 4,294,967,295
 pub record Registers (t : Table) (k : ℕ) (u : Table) : Type 0 where
@@ -136,9 +138,9 @@ registered_in t (x ∷ xs) s =
 
 -- ---- the call
 -- refused for a word that is none, or the list registered
-pub data RegisterCallWays (t : Table) (words : List ℕ) (r : Registering) : Type 0 where
-  bad_word : words_read words ≡ false → r ≡ record { answer = BadWord; table = t } → RegisterCallWays t words r
-  all : words_read words ≡ true → r.answer ≡ Registered → RegisteredIn t (slots_of words) r.table → RegisterCallWays t words r
+pub data RegisterCallWays (t : Table) (words : List ℕ) (r : Answered (Result ⊤ RegisterError) Table) : Type 0 where
+  bad_word : words_read words ≡ false → r ≡ record { answer = Err BadWord; table = t } → RegisterCallWays t words r
+  all : words_read words ≡ true → r.answer ≡ Ok tt → RegisteredIn t (slots_of words) r.table → RegisterCallWays t words r
 
 pub register_call_ways : (t : Table) (words : List ℕ) → Sound t → RegisterCallWays t words (register_of t words)
 unfolding register_of

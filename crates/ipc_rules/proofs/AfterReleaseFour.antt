@@ -1,4 +1,5 @@
 -- The release call, `release_of`: its four places name exactly those who are woken. Assumes nothing.
+use Rattle.std.specs.Prelude.{Ok}
 use mathlib.Core.Path.{◌≡◌, refl, ap}
 use mathlib.Core.Bool.{true}
 use mathlib.Core.List.Memᴰ
@@ -15,7 +16,6 @@ use Rattle.ipc_rules.specs.Holds.{four_of, released_all, release_of, Freed}
 use Rattle.ipc_rules.specs.declared.state.Waiter.{Waiter}
 use Rattle.ipc_rules.specs.declared.state.Table.{Table}
 use Rattle.ipc_rules.specs.declared.answers.Releasing.{Releasing}
-use Rattle.ipc_rules.specs.declared.answers.ReleaseAnswer.TheVariants.{Released}
 use Rattle.ipc_rules.proofs.AfterReleaseAll.{ReleasedIn, released_in}
 
 -- what the list's release says of the table, and of the four places in the woken's stead
@@ -25,7 +25,7 @@ pub record ReleasesFour (t : Table) (xs : List Slot) (r : Releasing) : Type 0 wh
   pub table : r.table ≡ freed.table
   pub named : (w : Waiter) → Memᴰ w freed.woken → Memᴰ w r.waiters
   pub only : (w : Waiter) → w.present ≡ true → Memᴰ w r.waiters → Memᴰ w freed.woken
-  pub answer : r.answer ≡ Released
+  pub answer : r.answer ≡ Ok tt
 
 module _ (w : Waiter) where
   four_names : (ws : List Waiter) → length ws ≤ 4 → Memᴰ w ws → Memᴰ w (four_of ws)

@@ -1,4 +1,5 @@
 -- Revocation, `revoke_of`: its ways, and what each changes and leaves. Assumes nothing.
+use Rattle.std.specs.Prelude.{Err, Ok, Result}
 use mathlib.Core.Path.{◌≡◌, refl, sym, ap, ◌∙◌}
 use mathlib.Core.Bool.{true, false}
 use mathlib.Core.List.{[]}
@@ -18,12 +19,14 @@ use Rattle.ipc_rules.specs.Views.{queue_of, waiter_of, hold_count, Alike}
 use Rattle.ipc_rules.specs.declared.state.Endpoint.{Endpoint}
 use Rattle.ipc_rules.specs.declared.state.Mailbox.{Mailbox}
 use Rattle.ipc_rules.specs.declared.state.Table.{Table}
-use Rattle.ipc_rules.specs.declared.answers.Revoking.{Revoking}
-use Rattle.ipc_rules.specs.declared.answers.RevokeAnswer.TheVariants.{Revoked, BadCap}
+use Rattle.ipc_rules.specs.declared.answers.CapError.TheVariants.{BadCap}
 use Rattle.ipc_rules.specs.declared.opening.Opening.TheVariants.{Opens, Shut}
 use Rattle.ipc_rules.proofs.Openings.{all_opened, opened_of, any_within}
 use Rattle.ipc_rules.proofs.KeepsRevoke.{Survives, killed_other, killed_live, other_box, other_places}
 use Rattle.ipc_rules.proofs.Changes.{queue_none, alike_of, counts_anew}
+use Rattle.ipc_rules.specs.declared.state.Waiter.{Waiter}
+use Rattle.ipc_rules.specs.declared.answers.CapError.{CapError}
+use Rattle.shown.specs.declared.Answered.{Answered}
 
 -- the channel in mailbox k ends: nothing opens it, ids that opened another mailbox open it still, and the mailbox is as when fresh
 pub record Revokes (t : Table) (k : ℕ) (u : Table) : Type 0 where
@@ -41,9 +44,9 @@ pub record Revokes (t : Table) (k : ℕ) (u : Table) : Type 0 where
   pub counts : u.counters.refusals ≡ t.counters.refusals
 
 -- refused for want of a live endpoint, or the channel ends and its waiter is the answer
-pub data RevokeWays (t : Table) (c : CapId) (r : Revoking) : Type 0 where
-  bad_cap : any_right_of t c ≡ Shut → r ≡ record { answer = BadCap; table = authority_raised t } → RevokeWays t c r
-  revoked : (k : ℕ) → any_right_of t c ≡ Opens k → mailbox_live t k ≡ true → r.answer ≡ Revoked (waiter_of t k) → Revokes t k r.table → RevokeWays t c r
+pub data RevokeWays (t : Table) (c : CapId) (r : Answered (Result Waiter CapError) Table) : Type 0 where
+  bad_cap : any_right_of t c ≡ Shut → r ≡ record { answer = Err BadCap; table = authority_raised t } → RevokeWays t c r
+  revoked : (k : ℕ) → any_right_of t c ≡ Opens k → mailbox_live t k ≡ true → r.answer ≡ Ok (waiter_of t k) → Revokes t k r.table → RevokeWays t c r
 
 module _ (t : Table) (k : ℕ) (σ : Sound t) where
   abbrev u : Table
@@ -108,5 +111,5 @@ module _ (t : Table) (c : CapId) (σ : Sound t) where
   revoke_next = by (revoke_ways t c σ)
     where
       by : RevokeWays t c (revoke_of t c) → (revoke_of t c).table.counters.next_gen ≡ t.counters.next_gen
-      by (bad_cap _ q) = ap (λ (r : Revoking). r.table.counters.next_gen) q
+      by (bad_cap _ q) = ap (λ (r : Answered (Result Waiter CapError) Table). r.table.counters.next_gen) q
       by (revoked _ _ _ _ r) = r.next

@@ -1,4 +1,5 @@
 -- Send, `send_of`: its four ways, and what each changes and leaves. Assumes nothing.
+use Rattle.std.specs.Prelude.{Err, Ok, Result}
 use mathlib.Core.Path.{◌≡◌, refl, ap, ◌∙◌}
 use mathlib.Core.Bool.{true}
 use mathlib.Core.List.{[], ◌∷◌, ◌++◌}
@@ -25,15 +26,16 @@ use Rattle.ipc_rules.specs.declared.state.Payload.{Payload}
 use Rattle.ipc_rules.specs.declared.state.Message.{Message}
 use Rattle.ipc_rules.specs.declared.state.Waiter.{Waiter}
 use Rattle.ipc_rules.specs.declared.state.Table.{Table}
-use Rattle.ipc_rules.specs.declared.answers.Sending.{Sending}
-use Rattle.ipc_rules.specs.declared.answers.SendAnswer.TheVariants.{Sent, BadRow, BadCap, Full}
+use Rattle.ipc_rules.specs.declared.answers.SendError.TheVariants.{BadRow, BadCap, Full}
 use Rattle.ipc_rules.specs.declared.opening.Opening.TheVariants.{Opens, Shut}
 use Rattle.ipc_rules.proofs.Openings.{all_opened, opens_live, live_below, box_same}
 use Rattle.ipc_rules.proofs.Changes.{queue_length, alike_of, alike_same, steady_same, counts_anew}
+use Rattle.ipc_rules.specs.declared.answers.SendError.{SendError}
+use Rattle.shown.specs.declared.Answered.{Answered}
 
 -- m is queued in mailbox k behind what waits there, and the waiter, taken out, is the answer
-pub record Sends (t : Table) (m : Message) (k : ℕ) (r : Sending) : Type 0 where
-  pub answer : r.answer ≡ Sent (waiter_of t k)
+pub record Sends (t : Table) (m : Message) (k : ℕ) (r : Answered (Result Waiter SendError) Table) : Type 0 where
+  pub answer : r.answer ≡ Ok (waiter_of t k)
   pub queue : queue_of r.table k ≡ queue_of t k ++ (m ∷ [])
   pub waiter : waiter_of r.table k ≡ nobody
   pub holds : hold_count r.table k ≡ hold_count t k
@@ -48,10 +50,10 @@ pub record Room (t : Table) (c : CapId) : Type 0 where
   pub below : length (queue_of t box) < t.sizes.depth
 
 -- refused for its row, for want of the right, for want of room, or sent
-pub data SendWays (t : Table) (c : CapId) (p : Payload) (row : ℕ) (r : Sending) : Type 0 where
-  bad_row : 54 ≤ row → r ≡ record { answer = BadRow; table = t } → SendWays t c p row r
-  bad_cap : row < 54 → opening_of t c send_right ≡ Shut → r ≡ record { answer = BadCap; table = authority_raised t } → SendWays t c p row r
-  full : row < 54 → (k : ℕ) → opening_of t c send_right ≡ Opens k → length (queue_of t k) ≡ t.sizes.depth → r ≡ record { answer = Full; table = full_raised t } → SendWays t c p row r
+pub data SendWays (t : Table) (c : CapId) (p : Payload) (row : ℕ) (r : Answered (Result Waiter SendError) Table) : Type 0 where
+  bad_row : 54 ≤ row → r ≡ record { answer = Err BadRow; table = t } → SendWays t c p row r
+  bad_cap : row < 54 → opening_of t c send_right ≡ Shut → r ≡ record { answer = Err BadCap; table = authority_raised t } → SendWays t c p row r
+  full : row < 54 → (k : ℕ) → opening_of t c send_right ≡ Opens k → length (queue_of t k) ≡ t.sizes.depth → r ≡ record { answer = Err Full; table = full_raised t } → SendWays t c p row r
   sent : row < 54 → (a : Room t c) → Sends t (stamped p row) a.box r → SendWays t c p row r
 
 -- ---- the message in its place
@@ -87,7 +89,7 @@ module _ (t : Table) (k : ℕ) (m : Message) (s : Sound t) (l : mailbox_live t k
       alike_of t (queued_in t k m) j s refl (get_or-set_other t.mailboxes k j (filled t.sizes.depth b) fresh_mailbox ne)
       (λ p q. old j p (λ e. let h = (s.ring k l).head in let z = s.sizes in ne (omega arith)))
 
-  queued : b.ring.len < t.sizes.depth → Sends t m k (record { answer = Sent b.waiter; table = queued_in t k m })
+  queued : b.ring.len < t.sizes.depth → Sends t m k (record { answer = Ok b.waiter; table = queued_in t k m })
   unfolding opening_of
   queued room =
       record {
@@ -123,7 +125,7 @@ row_passes t c p row w =
     all_pick Passes _ _ _ (λ h. let l = leb-true 54 row h in absurd (omega arith))
     (λ _. all_opened Passes _ _ _ (λ _ e. omega arith) (λ k _. all_pick Passes _ _ _ (λ _ e. omega arith) (λ _ e. omega arith)))
   where
-    Passes : Sending → Type 0
+    Passes : Answered (Result Waiter SendError) Table → Type 0
     Passes r = send_number r.answer ≡ no.bad_row → ⊥
 
 -- ---- accepted exactly where the row is one of the rows and there is room
@@ -137,7 +139,7 @@ module _ (t : Table) (c : CapId) (p : Payload) (row : ℕ) (s : Sound t) where
       by (full _ k o e _) = let h : k ≡ a.box = cc a.opens in let e' : length (queue_of t a.box) ≡ t.sizes.depth = rw h at e in let u = a.below in absurd (omega arith)
       by (sent _ a' x) = let h : a'.box ≡ a.box = cc (a.opens, a'.opens) in rw h at x
 
-  pub sent_room : (w : Waiter) → (send_of t c p row).answer ≡ Sent w → (row < 54) × Room t c
+  pub sent_room : (w : Waiter) → (send_of t c p row).answer ≡ Ok w → (row < 54) × Room t c
   sent_room w e = by (send_ways t c p row s)
     where
       by : SendWays t c p row (send_of t c p row) → (row < 54) × Room t c

@@ -1,4 +1,5 @@
 -- Sizes in range, as a test and as a fact; and a fresh table of such sizes is sound. Assumes nothing.
+use Rattle.std.specs.Prelude.{Result, ⊤}
 use mathlib.Core.Path.{◌≡◌, refl, ap}
 use mathlib.Core.Bool.{true}
 use Prim.Native.Nat.{ℕ, ◌+◌, ◌*◌}
@@ -11,11 +12,13 @@ use Rattle.laws.proofs.Lists.{all_replicate}
 use Rattle.ipc_rules.specs.State.{fresh_mailbox, fresh_endpoint, fresh_message, box_in, end_in, sizes_of}
 use Rattle.ipc_rules.specs.Make.{fresh_of, in_range, new_of}
 use Rattle.ipc_rules.specs.Sound.{InRange, Sound}
-use Rattle.ipc_rules.specs.declared.answers.New.{New}
 use Rattle.ipc_rules.specs.declared.state.Sizes.{Sizes}
 use Rattle.ipc_rules.specs.declared.state.Endpoint.{Endpoint}
 use Rattle.ipc_rules.specs.declared.state.Mailbox.{Mailbox}
 use Rattle.laws.proofs.Bools.{and_four}
+use Rattle.ipc_rules.specs.declared.answers.NewError.{NewError}
+use Rattle.shown.specs.declared.Answered.{Answered}
+use Rattle.ipc_rules.specs.declared.state.Table.{Table as Channels}
 
 pub in_range_of : (z : Sizes) → in_range z ≡ true → InRange z
 in_range_of z h =
@@ -65,5 +68,5 @@ fresh_sound z r =
 pub new_sound : (m e d : ℕ) → Sound (new_of m e d).table
 unfolding new_of
 new_sound m e d =
-    all_pick (λ (r : New). Sound r.table) _ _ _ (λ h. fresh_sound (sizes_of m e d) (in_range_of _ h))
+    all_pick (λ (r : Answered (Result ⊤ NewError) Channels). Sound r.table) _ _ _ (λ h. fresh_sound (sizes_of m e d) (in_range_of _ h))
     (λ _. fresh_sound (sizes_of 0 0 1) (record { mailboxes = omega arith; endpoints = omega arith; deep = omega arith; depth = omega arith }))

@@ -1,4 +1,5 @@
 -- Each call on messages and holds keeps a sound table sound. Assumes nothing.
+use Rattle.std.specs.Prelude.{Option, Result}
 use mathlib.Core.Path.{◌≡◌, refl, ap, ◌∙◌}
 use mathlib.Core.Bool.{Bool, true, false, ◌&&◌}
 use mathlib.Core.List.{List, [], ◌∷◌}
@@ -22,11 +23,14 @@ use Rattle.ipc_rules.specs.declared.state.Mailbox.{Mailbox}
 use Rattle.ipc_rules.specs.declared.state.Payload.{Payload}
 use Rattle.ipc_rules.specs.declared.state.TaskId.{TaskId}
 use Rattle.ipc_rules.specs.declared.state.Table.{Table}
-use Rattle.ipc_rules.specs.declared.answers.Sending.{Sending}
-use Rattle.ipc_rules.specs.declared.answers.Receiving.{Receiving}
-use Rattle.ipc_rules.specs.declared.answers.Parking.{Parking}
 use Rattle.ipc_rules.proofs.Openings.{all_opened, opens_live, hold_opens, box_same}
 use Rattle.ipc_rules.proofs.Keeps.{Fits, counts_kept, mailbox_kept, message_kept}
+use Rattle.ipc_rules.specs.declared.state.Waiter.{Waiter}
+use Rattle.ipc_rules.specs.declared.answers.SendError.{SendError}
+use Rattle.shown.specs.declared.Answered.{Answered}
+use Rattle.ipc_rules.specs.declared.state.Message.{Message}
+use Rattle.ipc_rules.specs.declared.answers.RecvError.{RecvError}
+use Rattle.ipc_rules.specs.declared.answers.ParkError.{ParkError}
 
 -- ---- rings
 -- what a live mailbox of a sound table is
@@ -64,9 +68,9 @@ uncancelled false n h e = absurd (not_both false e refl)
 pub send_kept : (t : Table) (c : CapId) (p : Payload) (row : ℕ) → Sound t → Sound (send_of t c p row).table
 unfolding send_of
 send_kept t c p row s =
-    all_pick (λ (r : Sending). Sound r.table) _ _ _ (λ _. s) (λ _.
-    all_opened (λ (r : Sending). Sound r.table) _ _ _ (λ _. counts_kept t _ s) (λ k o.
-    all_pick (λ (r : Sending). Sound r.table) _ _ _ (λ _. counts_kept t _ s) (λ h.
+    all_pick (λ (r : Answered (Result Waiter SendError) Table). Sound r.table) _ _ _ (λ _. s) (λ _.
+    all_opened (λ (r : Answered (Result Waiter SendError) Table). Sound r.table) _ _ _ (λ _. counts_kept t _ s) (λ k o.
+    all_pick (λ (r : Answered (Result Waiter SendError) Table). Sound r.table) _ _ _ (λ _. counts_kept t _ s) (λ h.
     let l = opens_live t c send_right k s o in
     let f = fits t k s l in
     message_kept _ k (mailbox_at t k).ring.head (stamped p row) (mailbox_kept t k _ s l (filled_fits _ _ (eqb-false _ _ h) f)) (ap (λ (b : Mailbox). b.live) (box_same t k _ s l) ∙ l) f.ring.head)))
@@ -77,18 +81,18 @@ taken_kept t k s l some = mailbox_kept t k _ s l (drained_fits _ _ some (fits t 
 pub recv_kept : (t : Table) (c : CapId) → Sound t → Sound (recv_of t c).table
 unfolding recv_of
 recv_kept t c s =
-    all_opened (λ (r : Receiving). Sound r.table) _ _ _ (λ _. counts_kept t _ s) (λ k o.
-    all_pick (λ (r : Receiving). Sound r.table) _ _ _ (λ _. s) (λ h.
+    all_opened (λ (r : Answered (Result Message RecvError) Table). Sound r.table) _ _ _ (λ _. counts_kept t _ s) (λ k o.
+    all_pick (λ (r : Answered (Result Message RecvError) Table). Sound r.table) _ _ _ (λ _. s) (λ h.
     taken_kept t k s (opens_live t c receive_right k s o) (some _ (eqb-false _ _ h))))
 
 pub park_kept : (t : Table) (c : CapId) (task : TaskId) → Sound t → Sound (park_of t c task).table
 unfolding park_of
 park_kept t c task s =
-    all_opened (λ (r : Parking). Sound r.table) _ _ _ (λ _. counts_kept t _ s) (λ k o.
+    all_opened (λ (r : Answered (Result (Option Message) ParkError) Table). Sound r.table) _ _ _ (λ _. counts_kept t _ s) (λ k o.
     let l = opens_live t c receive_right k s o in
-    all_pick (λ (r : Parking). Sound r.table) _ _ _ (λ q. taken_kept t k s l (ltb-true _ _ q)) (λ q.
-    all_pick (λ (r : Parking). Sound r.table) _ _ _ (λ _. s) (λ h.
-    all_pick (λ (r : Parking). Sound r.table) _ _ _ (λ _. counts_kept t _ s) (λ _.
+    all_pick (λ (r : Answered (Result (Option Message) ParkError) Table). Sound r.table) _ _ _ (λ q. taken_kept t k s l (ltb-true _ _ q)) (λ q.
+    all_pick (λ (r : Answered (Result (Option Message) ParkError) Table). Sound r.table) _ _ _ (λ _. s) (λ h.
+    all_pick (λ (r : Answered (Result (Option Message) ParkError) Table). Sound r.table) _ _ _ (λ _. counts_kept t _ s) (λ _.
     let f = fits t k s l in
     let e : (mailbox_at t k).ring.len ≤ 0 = ltb-false 0 (mailbox_at t k).ring.len q in
     mailbox_kept t k _ s l (record { live = f.live; ring = f.ring; waits_empty = λ _. omega arith; waits_held = λ _ a. uncancelled _ _ h a })))))

@@ -1,4 +1,5 @@
 -- Creation keeps a sound table sound: a dead mailbox comes to life with two dead endpoints as its ends. Assumes nothing.
+use Rattle.std.specs.Prelude.{Some, Result}
 use mathlib.Core.Path.{◌≡◌, refl, sym, ap, ◌∙◌}
 use mathlib.Core.Bool.{Bool, true, false}
 use mathlib.Core.List.{List}
@@ -7,7 +8,6 @@ use Prim.Native.Nat.{ℕ, ◌+◌, ◌≤◌, ◌<◌}
 use native.Mathlib.Omega.{arith}
 use lib.ListN.{set, length-set}
 use lib.Seq.{get_or-set_same, get_or-set_other}
-use Rattle.laws.specs.declared.Found.TheVariants.{At}
 use Rattle.laws.proofs.Cases.{all_found, not_both}
 use Rattle.laws.proofs.Lists.{all_set}
 use Rattle.laws.proofs.Search.{lowest_at}
@@ -22,8 +22,10 @@ use Rattle.ipc_rules.specs.Create.{free_mailbox, free_endpoint, with_channel, cr
 use Rattle.ipc_rules.specs.declared.state.Endpoint.{Endpoint}
 use Rattle.ipc_rules.specs.declared.state.Mailbox.{Mailbox}
 use Rattle.ipc_rules.specs.declared.state.Table.{Table}
-use Rattle.ipc_rules.specs.declared.answers.Creation.{Creation}
 use Rattle.ipc_rules.proofs.KeepsEnds.{ends_kept}
+use Rattle.ipc_rules.specs.declared.state.Channel.{Channel}
+use Rattle.ipc_rules.specs.declared.answers.CreateError.{CreateError}
+use Rattle.shown.specs.declared.Answered.{Answered}
 
 -- mailbox k and endpoints s and r are dead, within the sizes, and r is above s
 pub record Free (t : Table) (k s r : ℕ) : Type 0 where
@@ -35,7 +37,7 @@ pub record Free (t : Table) (k s r : ℕ) : Type 0 where
   pub recv : r < t.sizes.endpoints
 
 -- what the searches find is so
-pub found_free : (t : Table) (k s r : ℕ) → free_mailbox t ≡ At k → free_endpoint t 0 ≡ At s → free_endpoint t (s + 1) ≡ At r → Free t k s r
+pub found_free : (t : Table) (k s r : ℕ) → free_mailbox t ≡ Some k → free_endpoint t 0 ≡ Some s → free_endpoint t (s + 1) ≡ Some r → Free t k s r
 found_free t k s r b one two =
     let box = lowest_at (mailbox_live t) 0 t.sizes.mailboxes k b in
     let send = lowest_at (endpoint_live t) 0 t.sizes.endpoints s one in
@@ -167,7 +169,7 @@ module _ (t : Table) (ephemeral : Bool) (k s r : ℕ) (v : Sound t) (f : Free t 
 pub create_kept : (t : Table) (ephemeral : Bool) → Sound t → Sound (create_of t ephemeral).table
 unfolding create_of
 create_kept t ephemeral v =
-    all_found (λ (x : Creation). Sound x.table) _ _ _ (λ _. v) (λ k b.
-    all_found (λ (x : Creation). Sound x.table) _ _ _ (λ _. v) (λ s one.
-    all_found (λ (x : Creation). Sound x.table) _ _ _ (λ _. v) (λ r two.
+    all_found (λ (x : Answered (Result Channel CreateError) Table). Sound x.table) _ _ _ (λ _. v) (λ k b.
+    all_found (λ (x : Answered (Result Channel CreateError) Table). Sound x.table) _ _ _ (λ _. v) (λ s one.
+    all_found (λ (x : Answered (Result Channel CreateError) Table). Sound x.table) _ _ _ (λ _. v) (λ r two.
     channel_kept t ephemeral k s r v (found_free t k s r b one two))))

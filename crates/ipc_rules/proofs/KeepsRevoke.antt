@@ -1,4 +1,5 @@
 -- Revocation keeps a sound table sound: both ends die, and the mailbox and its places are as when fresh. Assumes nothing.
+use Rattle.std.specs.Prelude.{Result}
 use mathlib.Core.Path.{◌≡◌, refl, sym, ap, ◌∙◌}
 use mathlib.Core.Bool.{true, false, ◌&&◌}
 use mathlib.Core.List.{List}
@@ -21,10 +22,12 @@ use Rattle.ipc_rules.specs.declared.state.Endpoint.{Endpoint}
 use Rattle.ipc_rules.specs.declared.state.Mailbox.{Mailbox}
 use Rattle.ipc_rules.specs.declared.state.Message.{Message}
 use Rattle.ipc_rules.specs.declared.state.Table.{Table}
-use Rattle.ipc_rules.specs.declared.answers.Revoking.{Revoking}
 use Rattle.ipc_rules.proofs.Openings.{all_opened}
 use Rattle.ipc_rules.proofs.Keeps.{counts_kept}
 use Rattle.ipc_rules.proofs.KeepsEnds.{ends_kept}
+use Rattle.ipc_rules.specs.declared.state.Waiter.{Waiter}
+use Rattle.ipc_rules.specs.declared.answers.CapError.{CapError}
+use Rattle.shown.specs.declared.Answered.{Answered}
 
 -- ---- places
 -- what stands at a place after a wipe: in the range a fresh message, elsewhere what stood there
@@ -129,4 +132,4 @@ module _ (t : Table) (k : ℕ) where
 
 pub revoke_kept : (t : Table) (c : CapId) → Sound t → Sound (revoke_of t c).table
 unfolding revoke_of
-revoke_kept t c s = all_opened (λ (r : Revoking). Sound r.table) _ _ _ (λ _. counts_kept t _ s) (λ k _. without_kept t k s)
+revoke_kept t c s = all_opened (λ (r : Answered (Result Waiter CapError) Table). Sound r.table) _ _ _ (λ _. counts_kept t _ s) (λ k _. without_kept t k s)

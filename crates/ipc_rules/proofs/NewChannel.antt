@@ -1,4 +1,5 @@
 -- A channel in a dead mailbox and at two dead endpoints: what ids open with it, by what they opened before. Assumes nothing.
+use Rattle.std.specs.Prelude.{Result, Ok, Err}
 use mathlib.Core.Path.{◌≡◌, refl, sym, ap, ◌∙◌}
 use mathlib.Core.Bool.{Bool, true, false}
 use mathlib.Core.Logic.{◌⊎◌, inl, inr, ⊎_elim}
@@ -22,9 +23,8 @@ use Rattle.ipc_rules.specs.Create.{with_channel}
 use Rattle.ipc_rules.specs.Views.{end_opens}
 use Rattle.ipc_rules.specs.declared.state.Endpoint.{Endpoint}
 use Rattle.ipc_rules.specs.declared.state.Table.{Table}
-use Rattle.ipc_rules.specs.declared.opening.Attempt.TheVariants.{Passes, Fails}
+use Rattle.ipc_rules.specs.declared.opening.Reason.{Reason}
 use Rattle.ipc_rules.specs.declared.opening.Reason.TheVariants.{PastEnd, Dead, OtherGeneration, NoRight}
-use Rattle.ipc_rules.specs.declared.opening.Attempt.{Attempt}
 use Rattle.ipc_rules.specs.declared.opening.Opening.{Opening}
 use Rattle.ipc_rules.specs.declared.opening.Opening.TheVariants.{Opens, Shut}
 use Rattle.ipc_rules.proofs.KeepsCreate.{Free, created_send, created_recv}
@@ -53,7 +53,7 @@ pub record NewOpenings (t : Table) (k s r : ℕ) (u : Table) : Type 0 where
 -- ---- a dead endpoint opens to no id
 pub dead_shut : (t : Table) (c : CapId) (need : CapRights) → endpoint_live t (index_of c) ≡ false → opening_of t c need ≡ Shut
 unfolding opening_of open_of attempt_of told pick
-dead_shut t c need e = rw e (all_pick (λ (a : Attempt). told a ≡ Shut) (ltb (index_of c) t.sizes.endpoints) (Fails Dead) (Fails PastEnd) (λ _. refl) (λ _. refl))
+dead_shut t c need e = rw e (all_pick (λ (a : Result ℕ Reason). told a ≡ Shut) (ltb (index_of c) t.sizes.endpoints) (Err Dead) (Err PastEnd) (λ _. refl) (λ _. refl))
 
 -- what a live end opens, it opens to an id of its generation, by its right
 end_opens_lem : (g : ℕ) (w : CapRights) (k : ℕ) (c : CapId) (need : CapRights) (j : ℕ) → end_opens g w k c need ≡ Opens j → (g ≡ generation_of c) × (contains_all w need ≡ true) × (k ≡ j)
@@ -92,7 +92,7 @@ module _ (t : Table) (ephemeral : Bool) (k s r : ℕ) (σ : Sound t) (x : Free t
   unfolding opening_of open_of attempt_of told end_opens pick
   at_end i w c need l e h = rw (h, lt-ltb i t.sizes.endpoints l, e) (both (eqb g (generation_of c)) (contains_all w need))
     where
-      both : (a b : Bool) → told (pick a (pick b (Passes k) (Fails NoRight)) (Fails OtherGeneration)) ≡ pick a (pick b (Opens k) Shut) Shut
+      both : (a b : Bool) → told (pick a (pick b (Ok k) (Err NoRight)) (Err OtherGeneration)) ≡ pick a (pick b (Opens k) Shut) Shut
       both true true = refl
       both true false = refl
       both false b = refl

@@ -1,4 +1,5 @@
 -- How a choice by an opening is settled, and what an opening says of the endpoint and the mailbox. Assumes nothing.
+use Rattle.std.specs.Prelude.{Result, Ok, Err}
 use mathlib.Core.Path.{◌≡◌, refl, sym, ap, ◌∙◌}
 use mathlib.Core.Bool.{Bool, true, false, ◌||◌}
 use mathlib.Core.List.{List}
@@ -18,14 +19,15 @@ use Rattle.cap.specs.declared.slot.Slot.{Slot}
 use Rattle.ring.specs.Ring.{IsRing}
 use Rattle.ipc_rules.specs.State.{fresh_mailbox, with_mailbox, end_in, endpoint_at, endpoint_live, mailbox_at, mailbox_live}
 use Rattle.ipc_rules.specs.Sound.{Sound, InRange}
-use Rattle.ipc_rules.specs.Opening.{attempt_of, told, open_of, open_either, open_any, in_reach, opening_of, either_of, any_right_of, hold_of, opened, LiveBelow, SoundOpensLive}
+use Rattle.ipc_rules.specs.Opening.{attempt_of, told, open_of, open_either, open_any, open_for, in_reach, opening_of, either_of, any_right_of, hold_of, opened, LiveBelow, SoundOpensLive}
+use Rattle.ipc_rules.specs.Why.{right_for}
 use Rattle.ipc_rules.specs.declared.state.Endpoint.{Endpoint}
 use Rattle.ipc_rules.specs.declared.state.Mailbox.{Mailbox}
 use Rattle.ipc_rules.specs.declared.state.Table.{Table}
-use Rattle.ipc_rules.specs.declared.opening.Attempt.{Attempt}
-use Rattle.ipc_rules.specs.declared.opening.Attempt.TheVariants.{Passes, Fails}
 use Rattle.ipc_rules.specs.declared.opening.Reason.{Reason}
 use Rattle.ipc_rules.specs.declared.opening.Reason.TheVariants.{PastEnd, Dead, OtherGeneration, NoRight}
+use Rattle.ipc_rules.specs.declared.opening.Asked.{Asked}
+use Rattle.ipc_rules.specs.declared.opening.Asked.TheVariants.{Send, Receive, Either, Revocation}
 use Rattle.ipc_rules.specs.declared.opening.Opening.{Opening}
 use Rattle.ipc_rules.specs.declared.opening.Opening.TheVariants.{Opens, Shut}
 
@@ -41,15 +43,22 @@ module _ {A : Type 0} {r : A} where
 
 pub ruleset openings = (shut, opens)
 
--- the same of what is told of an attempt
-module _ {q p : Attempt} where
-  pub fails : (r : Reason) → q ≡ p → q ≡ Fails r → Shut ≡ told p
-  unfolding told
-  fails r e n = rw (← e, n) refl
+-- the same of what is told of an attempt at what is asked for
+told_for : (asked : Asked) (b : Bool) (e : Endpoint) (c : CapId) → told (attempt_of b e c (right_for asked e.rights)) ≡ open_for asked b e c
+unfolding right_for open_of open_either open_any
+told_for Send b e c = refl
+told_for Receive b e c = refl
+told_for Either b e c = refl
+told_for Revocation b e c = refl
 
-  pub passes : (k : ℕ) → q ≡ p → q ≡ Passes k → Opens k ≡ told p
+module _ (asked : Asked) (b : Bool) (e : Endpoint) (c : CapId) {q : Result ℕ Reason} (h : q ≡ attempt_of b e c (right_for asked e.rights)) where
+  pub passes : (k : ℕ) → q ≡ Ok k → Opens k ≡ open_for asked b e c
   unfolding told
-  passes k e n = rw (← e, n) refl
+  passes k n = rw (← told_for asked b e c, ← h, n) refl
+
+  pub fails : (r : Reason) → q ≡ Err r → Shut ≡ open_for asked b e c
+  unfolding told
+  fails r n = rw (← told_for asked b e c, ← h, n) refl
 
 -- what holds of each way of an opening holds of the choice by it
 pub all_opened : {A : Type 0} (P : A → Type 0) (o : Opening) (a : A) (f : ℕ → A) → (o ≡ Shut → P a) → ((k : ℕ) → o ≡ Opens k → P (f k)) → P (opened o a f)
@@ -99,7 +108,7 @@ pub record Opened (t : Table) (c : CapId) (need : CapRights) (k : ℕ) : Type 0 
 
 -- the four tests and what is told of them
 abbrev pub tested : Bool → Bool → Bool → Bool → ℕ → Opening
-tested b l g r m = told (pick b (pick l (pick g (pick r (Passes m) (Fails NoRight)) (Fails OtherGeneration)) (Fails Dead)) (Fails PastEnd))
+tested b l g r m = told (pick b (pick l (pick g (pick r (Ok m) (Err NoRight)) (Err OtherGeneration)) (Err Dead)) (Err PastEnd))
 
 tests : (b l g r : Bool) (m k : ℕ) → tested b l g r m ≡ Opens k → ((b ≡ true) × (l ≡ true)) × ((g ≡ true) × (r ≡ true)) × (m ≡ k)
 unfolding pick told
@@ -218,3 +227,11 @@ hold_within t x k s e = within t k s ((opens_live_below t s).held x k e)
 
 pub any_within : (t : Table) (c : CapId) (k : ℕ) → Sound t → any_right_of t c ≡ Opens k → Within t k
 any_within t c k s e = within t k s ((opens_live_below t s).revoked c k e)
+
+-- so the mailbox that the code opened is one of the 32
+module _ (t : Table) (i k : ℕ) {q : Opening} (s : Sound t) where
+  pub open_box : (c : CapId) (need : CapRights) → i ≡ index_of c → q ≡ open_of (ltb i t.sizes.endpoints) (end_in t.endpoints (i % 64)) c need → q ≡ Opens k → k < 32
+  open_box c need h g e = (opens_within t c need k s (sym (open_gave t i q s c need h g) ∙ e)).box
+
+  pub any_box : (c : CapId) → i ≡ index_of c → q ≡ open_any (ltb i t.sizes.endpoints) (end_in t.endpoints (i % 64)) c → q ≡ Opens k → k < 32
+  any_box c h g e = (any_within t c k s (sym (any_gave t i q s c h g) ∙ e)).box

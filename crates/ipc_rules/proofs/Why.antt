@@ -1,5 +1,6 @@
 -- Why an id opens nothing: each reason is told exactly where it is so, what is told and what opens agree, and the reason is there exactly
 -- where a call answers BadCap. Assumes nothing.
+use Rattle.std.specs.Prelude.{Result, Ok, Err, None, Option, Some, ⊤}
 use mathlib.Core.Path.{◌≡◌, refl, sym, ap, ◌∙◌}
 use mathlib.Core.Bool.{Bool, true, false, ◌||◌}
 use mathlib.Core.Logic.{⊎_elim}
@@ -28,32 +29,27 @@ use Rattle.ipc_rules.specs.declared.state.Payload.{Payload}
 use Rattle.ipc_rules.specs.declared.state.Waiter.{Waiter}
 use Rattle.ipc_rules.specs.declared.state.Table.{Table}
 use Rattle.ipc_rules.specs.declared.opening.Opening as openings
-use Rattle.ipc_rules.specs.declared.answers.Sending.{Sending}
-use Rattle.ipc_rules.specs.declared.answers.SendAnswer as sends
-use Rattle.ipc_rules.specs.declared.answers.Receiving.{Receiving}
-use Rattle.ipc_rules.specs.declared.answers.RecvAnswer as receives
-use Rattle.ipc_rules.specs.declared.answers.Parking.{Parking}
-use Rattle.ipc_rules.specs.declared.answers.ParkAnswer as parks
-use Rattle.ipc_rules.specs.declared.answers.QueuedAnswer.{QueuedAnswer}
-use Rattle.ipc_rules.specs.declared.answers.QueuedAnswer as queues
-use Rattle.ipc_rules.specs.declared.answers.HoldersAnswer.{HoldersAnswer}
-use Rattle.ipc_rules.specs.declared.answers.HoldersAnswer as holders
-use Rattle.ipc_rules.specs.declared.answers.Revoking.{Revoking}
-use Rattle.ipc_rules.specs.declared.answers.RevokeAnswer as revokes
-use Rattle.ipc_rules.specs.declared.opening.Attempt.{Attempt}
-use Rattle.ipc_rules.specs.declared.opening.Attempt.TheVariants.{Passes, Fails}
+use Rattle.ipc_rules.specs.declared.answers.SendError.TheVariants as sends
+use Rattle.ipc_rules.specs.declared.answers.RecvError.TheVariants as receives
+use Rattle.ipc_rules.specs.declared.answers.ParkError.TheVariants as parks
+use Rattle.ipc_rules.specs.declared.answers.CapError.TheVariants as cap_error
 use Rattle.ipc_rules.specs.declared.opening.Reason.{Reason}
 use Rattle.ipc_rules.specs.declared.opening.Reason.TheVariants.{PastEnd, Dead, OtherGeneration, NoRight}
 use Rattle.ipc_rules.specs.declared.opening.Asked.{Asked}
 use Rattle.ipc_rules.specs.declared.opening.Asked.TheVariants.{Send, Receive, Either, Revocation}
-use Rattle.ipc_rules.specs.declared.answers.WhyAnswer.{WhyAnswer}
-use Rattle.ipc_rules.specs.declared.answers.WhyAnswer.TheVariants.{Opens, Shut}
+use Rattle.ipc_rules.specs.declared.answers.WhyError.TheVariants.{Shut}
 use Rattle.ipc_rules.proofs.Openings.{looked}
+use Rattle.ipc_rules.specs.declared.answers.SendError.{SendError}
+use Rattle.shown.specs.declared.Answered.{Answered}
+use Rattle.ipc_rules.specs.declared.answers.RecvError.{RecvError}
+use Rattle.ipc_rules.specs.declared.answers.ParkError.{ParkError}
+use Rattle.ipc_rules.specs.declared.answers.CapError.{CapError}
+use Rattle.ipc_rules.specs.declared.answers.WhyError.{WhyError}
 
 -- ---- each reason, both ways
 -- what the four tests come to
-abbrev answered : Bool → Bool → Bool → Bool → ℕ → WhyAnswer
-answered b l g r m = why_answer (pick b (pick l (pick g (pick r (Passes m) (Fails NoRight)) (Fails OtherGeneration)) (Fails Dead)) (Fails PastEnd))
+abbrev answered : Bool → Bool → Bool → Bool → ℕ → Result ⊤ WhyError
+answered b l g r m = why_answer (pick b (pick l (pick g (pick r (Ok m) (Err NoRight)) (Err OtherGeneration)) (Err Dead)) (Err PastEnd))
 
 -- which tests passed and which was the first to fail
 Failed : Bool → Bool → Bool → Bool → Reason → Type 0
@@ -62,7 +58,7 @@ Failed b l g r Dead = (b ≡ true) × (l ≡ false)
 Failed b l g r OtherGeneration = (b ≡ true) × (l ≡ true) × (g ≡ false)
 Failed b l g r NoRight = (b ≡ true) × (l ≡ true) × (g ≡ true) × (r ≡ false)
 
-the_first : (b l g r : Bool) (m : ℕ) (e : Reason) → answered b l g r m ≡ Shut e → Failed b l g r e
+the_first : (b l g r : Bool) (m : ℕ) (e : Reason) → answered b l g r m ≡ Err (Shut e) → Failed b l g r e
 unfolding pick why_answer Failed
 the_first false l g r m e h = let i : e ≡ PastEnd = cc in rw i refl
 the_first true false g r m e h = let i : e ≡ Dead = cc in rw i (refl, refl)
@@ -70,7 +66,7 @@ the_first true true false r m e h = let i : e ≡ OtherGeneration = cc in rw i (
 the_first true true true false m e h = let i : e ≡ NoRight = cc in rw i (refl, refl, refl, refl)
 the_first true true true true m e h = let z : ◌≡◌ {A = ℕ} 0 1 = cc in absurd (omega arith)
 
-is_told : (b l g r : Bool) (m : ℕ) (e : Reason) → Failed b l g r e → answered b l g r m ≡ Shut e
+is_told : (b l g r : Bool) (m : ℕ) (e : Reason) → Failed b l g r e → answered b l g r m ≡ Err (Shut e)
 unfolding pick why_answer Failed
 is_told b l g r m PastEnd h = rw h refl
 is_told b l g r m Dead h = rw (h.0, h.1) refl
@@ -116,12 +112,12 @@ reasons_told t c asked e =
 pub one_reason : OneReason
 one_reason t c asked r q a b = same (sym ((reasons_told t c asked r).answered a) ∙ (reasons_told t c asked q).answered b)
   where
-    same : Shut r ≡ Shut q → r ≡ q
+    same : ◌≡◌ {A = Result ⊤ WhyError} (Err (Shut r)) (Err (Shut q)) → r ≡ q
     same e = cc
 
 -- ---- neither right
 -- where two rights fail for the same reason, so does the one or the other
-tested_both : (b l g s r : Bool) (m : ℕ) (e : Reason) → answered b l g (s || r) m ≡ Shut e → (answered b l g s m ≡ Shut e) × (answered b l g r m ≡ Shut e)
+tested_both : (b l g s r : Bool) (m : ℕ) (e : Reason) → answered b l g (s || r) m ≡ Err (Shut e) → (answered b l g s m ≡ Err (Shut e)) × (answered b l g r m ≡ Err (Shut e))
 unfolding pick why_answer
 tested_both true true true true r m e h = let z : ◌≡◌ {A = ℕ} 0 1 = cc in absurd (omega arith)
 tested_both true true true false true m e h = let z : ◌≡◌ {A = ℕ} 0 1 = cc in absurd (omega arith)
@@ -130,7 +126,7 @@ tested_both true true false s r m e h = (h, h)
 tested_both true false g s r m e h = (h, h)
 tested_both false l g s r m e h = (h, h)
 
-tested_back : (b l g s r : Bool) (m : ℕ) (e : Reason) → answered b l g s m ≡ Shut e → answered b l g r m ≡ Shut e → answered b l g (s || r) m ≡ Shut e
+tested_back : (b l g s r : Bool) (m : ℕ) (e : Reason) → answered b l g s m ≡ Err (Shut e) → answered b l g r m ≡ Err (Shut e) → answered b l g (s || r) m ≡ Err (Shut e)
 unfolding pick why_answer
 tested_back true true true true r m e h k = h
 tested_back true true true false r m e h k = k
@@ -152,36 +148,36 @@ either_is_neither t c e =
 
 -- ---- the tie to shut openings, and to BadCap
 -- what follows from an opening is P exactly where it is shut
-explains : {A : Type 0} (P : A → Type 0) (o : Attempt) (a : A) (f : ℕ → A) → P a → ((k : ℕ) → P (f k) → ⊥) → Explains (why_answer o) (P (opened (told o) a f))
+explains : {A : Type 0} (P : A → Type 0) (o : Result ℕ Reason) (a : A) (f : ℕ → A) → P a → ((k : ℕ) → P (f k) → ⊥) → Explains (why_answer o) (P (opened (told o) a f))
 unfolding why_answer told opened
-explains P (Passes k) a f p n = record { explained = λ h. absurd (n k h); only = λ r e. let z : ◌≡◌ {A = ℕ} 0 1 = cc in absurd (omega arith) }
-explains P (Fails r) a f p n = record { explained = λ _. record { reason = r; is = refl }; only = λ _ _. p }
+explains P (Ok k) a f p n = record { explained = λ h. absurd (n k h); only = λ r e. let z : ◌≡◌ {A = ℕ} 0 1 = cc in absurd (omega arith) }
+explains P (Err r) a f p n = record { explained = λ _. record { reason = r; is = refl }; only = λ _ _. p }
 
-shut_explains : (o : Attempt) → Explains (why_answer o) (told o ≡ openings.TheVariants.Shut)
+shut_explains : (o : Result ℕ Reason) → Explains (why_answer o) (told o ≡ openings.TheVariants.Shut)
 unfolding why_answer told
-shut_explains (Passes k) = record { explained = λ h. let z : ◌≡◌ {A = ℕ} 0 1 = cc in absurd (omega arith); only = λ r e. let z : ◌≡◌ {A = ℕ} 0 1 = cc in absurd (omega arith) }
-shut_explains (Fails r) = record { explained = λ _. record { reason = r; is = refl }; only = λ _ _. refl }
+shut_explains (Ok k) = record { explained = λ h. let z : ◌≡◌ {A = ℕ} 0 1 = cc in absurd (omega arith); only = λ r e. let z : ◌≡◌ {A = ℕ} 0 1 = cc in absurd (omega arith) }
+shut_explains (Err r) = record { explained = λ _. record { reason = r; is = refl }; only = λ _ _. refl }
 
 hold_tie : (t : Table) (c : CapId) → Explains (why_of t c Send) (hold_of t (holding c) ≡ openings.TheVariants.Shut)
 unfolding why_of tried_of right_for hold_of opening_of open_of pick
 hold_tie t c = shut_explains (tried_of t c Send)
 
 -- no other answer is BadCap
-full_or_sent : (b : Bool) (w : Waiter) (t u : Table) → let o : Sending = pick b (record { answer = sends.TheVariants.Full; table = t }) (record { answer = sends.TheVariants.Sent w; table = u }) in
-    o.answer ≡ sends.TheVariants.BadCap → ⊥
+full_or_sent : (b : Bool) (w : Waiter) (t u : Table) → let o : (Answered (Result Waiter SendError) Table) = pick b (record { answer = Err sends.Full; table = t }) (record { answer = Ok w; table = u }) in
+    o.answer ≡ Err sends.BadCap → ⊥
 unfolding pick
 full_or_sent true w t u e = let z : ◌≡◌ {A = ℕ} 0 1 = cc in omega arith
 full_or_sent false w t u e = let z : ◌≡◌ {A = ℕ} 0 1 = cc in omega arith
 
-empty_or_received : (b : Bool) (m : Message) (t u : Table) → let o : Receiving = pick b (record { answer = receives.TheVariants.Empty; table = t }) (record { answer = receives.TheVariants.Received m; table = u }) in
-    o.answer ≡ receives.TheVariants.BadCap → ⊥
+empty_or_received : (b : Bool) (m : Message) (t u : Table) → let o : (Answered (Result Message RecvError) Table) = pick b (record { answer = Err receives.Empty; table = t }) (record { answer = Ok m; table = u }) in
+    o.answer ≡ Err receives.BadCap → ⊥
 unfolding pick
 empty_or_received true m t u e = let z : ◌≡◌ {A = ℕ} 0 1 = cc in omega arith
 empty_or_received false m t u e = let z : ◌≡◌ {A = ℕ} 0 1 = cc in omega arith
 
 parked_or_not : (a b c : Bool) (m : Message) (t u v w : Table) →
-    let o : Parking = pick a (record { answer = parks.TheVariants.Given m; table = t }) (pick b (record { answer = parks.TheVariants.Cancelled; table = u }) (pick c (record { answer = parks.TheVariants.Busy; table = v }) (record { answer = parks.TheVariants.Parked; table = w }))) in
-    o.answer ≡ parks.TheVariants.BadCap → ⊥
+    let o : (Answered (Result (Option Message) ParkError) Table) = pick a (record { answer = Ok (Some m); table = t }) (pick b (record { answer = Err parks.Cancelled; table = u }) (pick c (record { answer = Err parks.Busy; table = v }) (record { answer = Ok None; table = w }))) in
+    o.answer ≡ Err parks.BadCap → ⊥
 unfolding pick
 parked_or_not true b c m t u v w e = let z : ◌≡◌ {A = ℕ} 0 1 = cc in omega arith
 parked_or_not false true c m t u v w e = let z : ◌≡◌ {A = ℕ} 0 1 = cc in omega arith
@@ -189,10 +185,10 @@ parked_or_not false false true m t u v w e = let z : ◌≡◌ {A = ℕ} 0 1 = c
 parked_or_not false false false m t u v w e = let z : ◌≡◌ {A = ℕ} 0 1 = cc in omega arith
 
 -- a send by a row that is there
-send_tie : (t : Table) (c : CapId) (p : Payload) (row : ℕ) → row < 54 → Explains (why_of t c Send) ((send_of t c p row).answer ≡ sends.TheVariants.BadCap)
+send_tie : (t : Table) (c : CapId) (p : Payload) (row : ℕ) → row < 54 → Explains (why_of t c Send) ((send_of t c p row).answer ≡ Err sends.BadCap)
 unfolding why_of tried_of right_for send_of opening_of open_of pick
 send_tie t c p row l =
-    rw (lt-leb 54 row l) (explains (λ (o : Sending). o.answer ≡ sends.TheVariants.BadCap) (tried_of t c Send) _ _ refl
+    rw (lt-leb 54 row l) (explains (λ (o : Answered (Result Waiter SendError) Table). o.answer ≡ Err sends.BadCap) (tried_of t c Send) _ _ refl
     (λ k. full_or_sent (eqb (mailbox_at t k).ring.len t.sizes.depth) (mailbox_at t k).waiter (full_raised t) (queued_in t k (stamped p row))))
 
 pub reasons_tie : ReasonsTie
@@ -200,11 +196,11 @@ unfolding why_of tried_of right_for recv_of park_of queued_of holders_of revoke_
 reasons_tie t c =
     record {
       send = send_tie t c;
-      receive = explains (λ (o : Receiving). o.answer ≡ receives.TheVariants.BadCap) (tried_of t c Receive) _ _ refl (λ k. empty_or_received _ _ _ _);
-      park = λ task. explains (λ (o : Parking). o.answer ≡ parks.TheVariants.BadCap) (tried_of t c Receive) _ _ refl (λ k. parked_or_not _ _ _ _ _ _ _ _);
-      queued = explains (λ (o : QueuedAnswer). o ≡ queues.TheVariants.BadCap) (tried_of t c Either) _ _ refl (λ k e. let z : ◌≡◌ {A = ℕ} 0 1 = cc in omega arith);
-      holders = explains (λ (o : HoldersAnswer). o ≡ holders.TheVariants.BadCap) (tried_of t c Send) _ _ refl (λ k e. let z : ◌≡◌ {A = ℕ} 0 1 = cc in omega arith);
-      revoke = explains (λ (o : Revoking). o.answer ≡ revokes.TheVariants.BadCap) (tried_of t c Revocation) _ _ refl (λ k e. let z : ◌≡◌ {A = ℕ} 0 1 = cc in omega arith);
+      receive = explains (λ (o : Answered (Result Message RecvError) Table). o.answer ≡ Err receives.BadCap) (tried_of t c Receive) _ _ refl (λ k. empty_or_received _ _ _ _);
+      park = λ task. explains (λ (o : Answered (Result (Option Message) ParkError) Table). o.answer ≡ Err parks.BadCap) (tried_of t c Receive) _ _ refl (λ k. parked_or_not _ _ _ _ _ _ _ _);
+      queued = explains (λ (o : Result ℕ CapError). o ≡ Err cap_error.BadCap) (tried_of t c Either) _ _ refl (λ k e. let z : ◌≡◌ {A = ℕ} 0 1 = cc in omega arith);
+      holders = explains (λ (o : Result ℕ CapError). o ≡ Err cap_error.BadCap) (tried_of t c Send) _ _ refl (λ k e. let z : ◌≡◌ {A = ℕ} 0 1 = cc in omega arith);
+      revoke = explains (λ (o : Answered (Result Waiter CapError) Table). o.answer ≡ Err cap_error.BadCap) (tried_of t c Revocation) _ _ refl (λ k e. let z : ◌≡◌ {A = ℕ} 0 1 = cc in omega arith);
     }
 
 pub shuts_tie : ShutsTie
@@ -229,17 +225,17 @@ either_never_lacks t σ c e =
 
 -- ---- for the code
 -- what an attempt came to is what the rule asks
-pub tried_gave : (t : Table) (i : ℕ) (q : Attempt) → Sound t → (c : CapId) (asked : Asked) → i ≡ index_of c →
+pub tried_gave : (t : Table) (i : ℕ) (q : Result ℕ Reason) → Sound t → (c : CapId) (asked : Asked) → i ≡ index_of c →
     q ≡ attempt_of (ltb i t.sizes.endpoints) (end_in t.endpoints (i % 64)) c (right_for asked (end_in t.endpoints (i % 64)).rights) → q ≡ tried_of t c asked
 unfolding tried_of attempt_of pick
 tried_gave t i q σ c asked h g =
     looked (λ b e. attempt_of b e c (right_for asked e.rights)) (λ _ _. refl) t.endpoints t.sizes.endpoints σ.sizes.endpoints i _ q h g
 
-module _ {q p : Attempt} where
-  pub why_passes : (k : ℕ) → q ≡ p → q ≡ Passes k → Opens ≡ why_answer p
+module _ {q p : Result ℕ Reason} where
+  pub why_passes : (k : ℕ) → q ≡ p → q ≡ Ok k → Ok tt ≡ why_answer p
   unfolding why_answer
   why_passes k e n = rw (← e, n) refl
 
-  pub why_fails : (r : Reason) → q ≡ p → q ≡ Fails r → Shut r ≡ why_answer p
+  pub why_fails : (r : Reason) → q ≡ p → q ≡ Err r → Err (Shut r) ≡ why_answer p
   unfolding why_answer
   why_fails r e n = rw (← e, n) refl

@@ -1,11 +1,11 @@
 -- Document 01, "Every no, by number": the three refusal counts, each raised by its refusals alone, stopping at 4,294,967,295.
-use Rattle.std.specs.Prelude.{ℕ, ◌+◌, ltb}
+use Rattle.std.specs.Prelude.{ℕ, ◌+◌, ltb, Ok, Result, ⊤}
 use Rattle.laws.specs.Pick.{pick}
 use Rattle.ipc_rules.specs.State.{counts_of, with_refusals, with_authority, with_full, with_state}
 use Rattle.ipc_rules.specs.declared.state.Refusals.{Refusals}
 use Rattle.ipc_rules.specs.declared.state.Table.{Table}
-use Rattle.ipc_rules.specs.declared.answers.Noting.{Noting}
-use Rattle.ipc_rules.specs.declared.answers.NoteAnswer.TheVariants.{Noted}
+use Rattle.ipc_rules.specs.declared.answers.TableError.{TableError}
+use Rattle.shown.specs.declared.Answered.{Answered}
 
 -- one more, and no more than 4,294,967,295
 unfoldable pub raised : ℕ → ℕ
@@ -32,8 +32,8 @@ abbrev pub state_raised : Table → Table
 state_raised t = with_refusals t (state_noted (counts_of t))
 
 -- the two note calls
-abbrev pub note_authority_of : Table → Noting
-note_authority_of t = record { answer = Noted; table = authority_raised t }
+abbrev pub note_authority_of : Table → Answered (Result ⊤ TableError) Table
+note_authority_of t = record { answer = Ok tt; table = authority_raised t }
 
-abbrev pub note_state_of : Table → Noting
-note_state_of t = record { answer = Noted; table = state_raised t }
+abbrev pub note_state_of : Table → Answered (Result ⊤ TableError) Table
+note_state_of t = record { answer = Ok tt; table = state_raised t }

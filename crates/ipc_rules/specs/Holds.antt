@@ -1,5 +1,5 @@
 -- Document 01, "Channels": register and release, a hold for each present id that opens for send. Vacant and unopened ids are skipped.
-use Rattle.std.specs.Prelude.{Bool, ◌&&◌, List, [], ◌∷◌, ◌++◌, ℕ, ◌-◌, eqb, get_or}
+use Rattle.std.specs.Prelude.{Bool, ◌&&◌, List, [], ◌∷◌, ◌++◌, ℕ, ◌-◌, eqb, get_or, Err, Ok, Result, ⊤}
 use Rattle.laws.specs.Pick.{pick}
 use Rattle.cap.specs.Word.{words_read, slots_of}
 use Rattle.cap.specs.declared.slot.Slot.{Slot}
@@ -9,10 +9,10 @@ use Rattle.ipc_rules.specs.Opening.{hold_of, opened}
 use Rattle.ipc_rules.specs.declared.state.Mailbox.{Mailbox}
 use Rattle.ipc_rules.specs.declared.state.Waiter.{Waiter}
 use Rattle.ipc_rules.specs.declared.state.Table.{Table}
-use Rattle.ipc_rules.specs.declared.answers.Registering.{Registering}
-use Rattle.ipc_rules.specs.declared.answers.RegisterAnswer.TheVariants.{Registered, BadWord}
+use Rattle.ipc_rules.specs.declared.answers.RegisterError.TheVariants.{BadWord}
 use Rattle.ipc_rules.specs.declared.answers.Releasing.{Releasing}
-use Rattle.ipc_rules.specs.declared.answers.ReleaseAnswer.TheVariants.{Released}
+use Rattle.ipc_rules.specs.declared.answers.RegisterError.{RegisterError}
+use Rattle.shown.specs.declared.Answered.{Answered}
 
 -- ---- register
 -- one hold more, stopping at 4,294,967,295
@@ -28,11 +28,11 @@ registered_all t [] = t
 registered_all t (s ∷ ss) = registered_all (registered t s) ss
 
 -- a list as words, any length: BadWord before all else
-unfoldable pub register_of : Table → List ℕ → Registering
+unfoldable pub register_of : Table → List ℕ → Answered (Result ⊤ RegisterError) Table
 register_of t words =
     pick (words_read words)
-    (record { answer = Registered; table = registered_all t (slots_of words) })
-    (record { answer = BadWord; table = t })
+    (record { answer = Ok tt; table = registered_all t (slots_of words) })
+    (record { answer = Err BadWord; table = t })
 
 -- ---- release
 -- one hold off, not below 0
@@ -71,4 +71,4 @@ four_of ws = get_or ws 0 nobody ∷ get_or ws 1 nobody ∷ get_or ws 2 nobody �
 -- exactly four slots, and four waiters by value
 unfoldable pub release_of : Table → List Slot → Releasing
 release_of t slots =
-    record { answer = Released; waiters = four_of (released_all t slots).woken; table = (released_all t slots).table }
+    record { answer = Ok tt; waiters = four_of (released_all t slots).woken; table = (released_all t slots).table }

@@ -1,6 +1,6 @@
 -- Document 01, "Channels": when an id opens an endpoint, and what is done with an opening; and request No. 6: where it does not, for which of
 -- four reasons.
-use Rattle.std.specs.Prelude.{◌≡◌, Bool, true, ◌||◌, ℕ, ◌<◌, ltb, eqb}
+use Rattle.std.specs.Prelude.{◌≡◌, Bool, true, ◌||◌, ℕ, ◌<◌, ltb, eqb, Result, Ok, Err}
 use Rattle.laws.specs.Pick.{pick}
 use Rattle.cap.specs.Id.{index_of, generation_of}
 use Rattle.cap.specs.Rights.{contains_all, send_right, receive_right}
@@ -11,29 +11,30 @@ use Rattle.ipc_rules.specs.State.{endpoint_at, end_lives, mailbox_live}
 use Rattle.ipc_rules.specs.Sound.{Sound}
 use Rattle.ipc_rules.specs.declared.state.Endpoint.{Endpoint}
 use Rattle.ipc_rules.specs.declared.state.Table.{Table}
-use Rattle.ipc_rules.specs.declared.opening.Attempt.{Attempt}
-use Rattle.ipc_rules.specs.declared.opening.Attempt.TheVariants.{Passes, Fails}
+use Rattle.ipc_rules.specs.declared.opening.Reason.{Reason}
 use Rattle.ipc_rules.specs.declared.opening.Reason.TheVariants.{PastEnd, Dead, OtherGeneration, NoRight}
+use Rattle.ipc_rules.specs.declared.opening.Asked.{Asked}
+use Rattle.ipc_rules.specs.declared.opening.Asked.TheVariants.{Send, Receive, Either, Revocation}
 use Rattle.ipc_rules.specs.declared.opening.Opening.{Opening}
 use Rattle.ipc_rules.specs.declared.opening.Opening.TheVariants.{Opens, Shut}
 
 -- ---- an attempt
 -- request No. 6: "index past e, dead, another generation, or right missing, tested in that order". One definition for every opening: `right`
 -- is whether the endpoint has what is asked for
-unfoldable pub attempt_of : Bool → Endpoint → CapId → Bool → Attempt
+unfoldable pub attempt_of : Bool → Endpoint → CapId → Bool → Result ℕ Reason
 attempt_of below e c right =
     pick below
     (pick (end_lives e)
     (pick (eqb e.generation (generation_of c))
-    (pick right (Passes e.mailbox) (Fails NoRight))
-    (Fails OtherGeneration))
-    (Fails Dead))
-    (Fails PastEnd)
+    (pick right (Ok e.mailbox) (Err NoRight))
+    (Err OtherGeneration))
+    (Err Dead))
+    (Err PastEnd)
 
 -- what is told of an attempt: the mailbox, or that nothing opens, and not why
-unfoldable pub told : Attempt → Opening
-told (Passes k) = Opens k
-told (Fails r) = Shut
+unfoldable pub told : Result ℕ Reason → Opening
+told (Ok k) = Opens k
+told (Err r) = Shut
 
 -- the right `need`; either right; a live endpoint of that generation, whatever its right
 unfoldable pub open_of : Bool → Endpoint → CapId → CapRights → Opening
@@ -44,6 +45,13 @@ open_either below e c = told (attempt_of below e c (contains_all e.rights send_r
 
 unfoldable pub open_any : Bool → Endpoint → CapId → Opening
 open_any below e c = told (attempt_of below e c true)
+
+-- the one of the three by what is asked for
+abbrev pub open_for : Asked → Bool → Endpoint → CapId → Opening
+open_for Send below e c = open_of below e c send_right
+open_for Receive below e c = open_of below e c receive_right
+open_for Either below e c = open_either below e c
+open_for Revocation below e c = open_any below e c
 
 -- what follows from an opening: one thing where it is shut, another at the mailbox that it opens
 unfoldable pub opened : {A : Type 0} → Opening → A → (ℕ → A) → A

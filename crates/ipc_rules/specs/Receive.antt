@@ -1,5 +1,5 @@
 -- Document 01, "Channels": try to receive, and park.
-use Rattle.std.specs.Prelude.{Bool, false, ◌&&◌, not, ℕ, ltb, eqb}
+use Rattle.std.specs.Prelude.{Bool, false, ◌&&◌, not, ℕ, ltb, eqb, Err, None, Ok, Option, Result, Some}
 use Rattle.laws.specs.Pick.{pick}
 use Rattle.cap.specs.Rights.{receive_right}
 use Rattle.cap.specs.declared.CapId.{CapId}
@@ -12,10 +12,11 @@ use Rattle.ipc_rules.specs.declared.state.Mailbox.{Mailbox}
 use Rattle.ipc_rules.specs.declared.state.TaskId.{TaskId}
 use Rattle.ipc_rules.specs.declared.state.Waiter.{Waiter}
 use Rattle.ipc_rules.specs.declared.state.Table.{Table}
-use Rattle.ipc_rules.specs.declared.answers.Receiving.{Receiving}
-use Rattle.ipc_rules.specs.declared.answers.RecvAnswer as recv
-use Rattle.ipc_rules.specs.declared.answers.Parking.{Parking}
-use Rattle.ipc_rules.specs.declared.answers.ParkAnswer as park
+use Rattle.ipc_rules.specs.declared.answers.RecvError.TheVariants as recv
+use Rattle.ipc_rules.specs.declared.answers.ParkError.TheVariants as park
+use Rattle.ipc_rules.specs.declared.answers.RecvError.{RecvError}
+use Rattle.shown.specs.declared.Answered.{Answered}
+use Rattle.ipc_rules.specs.declared.answers.ParkError.{ParkError}
 
 -- a ring of depth d without its oldest message, whose place keeps it until it is written again
 abbrev pub drained : ℕ → Mailbox → Mailbox
@@ -29,11 +30,11 @@ abbrev pub taken_from : Table → ℕ → Table
 taken_from t k = with_mailbox t k (drained t.sizes.depth (mailbox_at t k))
 
 -- BadCap; Empty; otherwise the oldest message
-unfoldable pub recv_of : Table → CapId → Receiving
+unfoldable pub recv_of : Table → CapId → Answered (Result Message RecvError) Table
 recv_of t c =
-    opened (opening_of t c receive_right) (record { answer = recv.TheVariants.BadCap; table = authority_raised t }) (λ k.
-    pick (eqb (mailbox_at t k).ring.len 0) (record { answer = recv.TheVariants.Empty; table = t })
-    (record { answer = recv.TheVariants.Received (oldest t k); table = taken_from t k }))
+    opened (opening_of t c receive_right) (record { answer = Err recv.BadCap; table = authority_raised t }) (λ k.
+    pick (eqb (mailbox_at t k).ring.len 0) (record { answer = Err recv.Empty; table = t })
+    (record { answer = Ok (oldest t k); table = taken_from t k }))
 
 -- two tasks are one where slot and epoch agree
 abbrev pub same_task : TaskId → TaskId → Bool
@@ -47,10 +48,10 @@ abbrev pub parked_in : Table → ℕ → TaskId → Table
 parked_in t k task = with_mailbox t k (with_waiter (mailbox_at t k) (waiting task))
 
 -- BadCap; a queued message is given; ephemeral with no send hold gives Cancelled; another task waiting gives Busy; otherwise parked
-unfoldable pub park_of : Table → CapId → TaskId → Parking
+unfoldable pub park_of : Table → CapId → TaskId → Answered (Result (Option Message) ParkError) Table
 park_of t c task =
-    opened (opening_of t c receive_right) (record { answer = park.TheVariants.BadCap; table = authority_raised t }) (λ k.
-    pick (ltb 0 (mailbox_at t k).ring.len) (record { answer = park.TheVariants.Given (oldest t k); table = taken_from t k })
-    (pick ((mailbox_at t k).ephemeral && eqb (mailbox_at t k).send_holders 0) (record { answer = park.TheVariants.Cancelled; table = t })
-    (pick (other_waits (mailbox_at t k).waiter task) (record { answer = park.TheVariants.Busy; table = state_raised t })
-    (record { answer = park.TheVariants.Parked; table = parked_in t k task }))))
+    opened (opening_of t c receive_right) (record { answer = Err park.BadCap; table = authority_raised t }) (λ k.
+    pick (ltb 0 (mailbox_at t k).ring.len) (record { answer = Ok (Some (oldest t k)); table = taken_from t k })
+    (pick ((mailbox_at t k).ephemeral && eqb (mailbox_at t k).send_holders 0) (record { answer = Err park.Cancelled; table = t })
+    (pick (other_waits (mailbox_at t k).waiter task) (record { answer = Err park.Busy; table = state_raised t })
+    (record { answer = Ok None; table = parked_in t k task }))))

@@ -1,5 +1,5 @@
 -- Document 01, "Channels": send; request No. 10: "Messages get a fourth part, the sending row, one byte, set by the kernel."
-use Rattle.std.specs.Prelude.{ℕ, eqb, leb}
+use Rattle.std.specs.Prelude.{ℕ, eqb, leb, Err, Ok, Result}
 use Rattle.laws.specs.Pick.{pick}
 use Rattle.cap.specs.Rights.{send_right}
 use Rattle.cap.specs.declared.CapId.{CapId}
@@ -11,8 +11,10 @@ use Rattle.ipc_rules.specs.declared.state.Payload.{Payload}
 use Rattle.ipc_rules.specs.declared.state.Message.{Message}
 use Rattle.ipc_rules.specs.declared.state.Mailbox.{Mailbox}
 use Rattle.ipc_rules.specs.declared.state.Table.{Table}
-use Rattle.ipc_rules.specs.declared.answers.Sending.{Sending}
-use Rattle.ipc_rules.specs.declared.answers.SendAnswer.TheVariants.{Sent, BadRow, BadCap, Full}
+use Rattle.ipc_rules.specs.declared.answers.SendError.TheVariants.{BadRow, BadCap, Full}
+use Rattle.ipc_rules.specs.declared.state.Waiter.{Waiter}
+use Rattle.ipc_rules.specs.declared.answers.SendError.{SendError}
+use Rattle.shown.specs.declared.Answered.{Answered}
 
 -- one message more in a ring of depth d, and the waiter taken out
 abbrev pub filled : ℕ → Mailbox → Mailbox
@@ -24,9 +26,9 @@ queued_in t k m = with_message (with_mailbox t k (filled t.sizes.depth (mailbox_
 
 -- a row from 54 up is refused (19), before BadCap and without a count; then BadCap; Full when the length is d; otherwise queue what was handed
 -- in, stamped with the row, and answer the waiter, taken out
-unfoldable pub send_of : Table → CapId → Payload → ℕ → Sending
+unfoldable pub send_of : Table → CapId → Payload → ℕ → Answered (Result Waiter SendError) Table
 send_of t c p row =
-    pick (leb 54 row) (record { answer = BadRow; table = t })
-    (opened (opening_of t c send_right) (record { answer = BadCap; table = authority_raised t }) (λ k.
-    pick (eqb (mailbox_at t k).ring.len t.sizes.depth) (record { answer = Full; table = full_raised t })
-    (record { answer = Sent (mailbox_at t k).waiter; table = queued_in t k (stamped p row) })))
+    pick (leb 54 row) (record { answer = Err BadRow; table = t })
+    (opened (opening_of t c send_right) (record { answer = Err BadCap; table = authority_raised t }) (λ k.
+    pick (eqb (mailbox_at t k).ring.len t.sizes.depth) (record { answer = Err Full; table = full_raised t })
+    (record { answer = Ok (mailbox_at t k).waiter; table = queued_in t k (stamped p row) })))

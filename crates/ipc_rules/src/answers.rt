@@ -1,111 +1,39 @@
-// What each call answers. A call that can change the table gives it back beside the answer.
+// What each call answers: what it has done, or why not. A call that can change the table gives it back beside the answer.
 use crate::opening::Reason;
 use crate::state::{Channel, Message, Refusals, Table, Waiter};
 
-#[derive(Clone, Copy)]
-pub enum NewAnswer {
-    Made,
-    BadSizes,
-}
+pub type NewAnswer = Result<(), NewError>;
 
-#[derive(Drop)]
-pub struct New {
-    pub answer: NewAnswer,
-    pub table: Table,
-}
+pub type CreateAnswer = Result<Channel, CreateError>;
 
-#[derive(Clone, Copy)]
-pub enum CreateAnswer {
-    Created(Channel),
-    NoMailbox,
-    NoEndpoint,
-    BadTable,
-}
+// the task to wake, if one was parked
+pub type SendAnswer = Result<Waiter, SendError>;
 
-#[derive(Drop)]
-pub struct Creation {
-    pub answer: CreateAnswer,
-    pub table: Table,
-}
+pub type RecvAnswer = Result<Message, RecvError>;
 
-#[derive(Clone, Copy)]
-pub enum SendAnswer {
-    Sent(Waiter),
-    // the sending row is from 54 up
-    BadRow,
-    BadCap,
-    Full,
-    BadTable,
-}
+// a message that is there already, or none: the task is parked
+pub type ParkAnswer = Result<Option<Message>, ParkError>;
 
-#[derive(Drop)]
-pub struct Sending {
-    pub answer: SendAnswer,
-    pub table: Table,
-}
+pub type QueuedAnswer = Result<usize, CapError>;
 
-#[derive(Clone, Copy)]
-pub enum RecvAnswer {
-    Received(Message),
-    BadCap,
-    Empty,
-    BadTable,
-}
+pub type HoldersAnswer = Result<u32, CapError>;
 
-#[derive(Drop)]
-pub struct Receiving {
-    pub answer: RecvAnswer,
-    pub table: Table,
-}
+pub type RegisterAnswer = Result<(), RegisterError>;
 
-#[derive(Clone, Copy)]
-pub enum ParkAnswer {
-    Parked,
-    Given(Message),
-    BadCap,
-    Busy,
-    Cancelled,
-    BadTable,
-}
+pub type ReleaseAnswer = Result<(), TableError>;
 
-#[derive(Drop)]
-pub struct Parking {
-    pub answer: ParkAnswer,
-    pub table: Table,
-}
+// the task to wake, if one was parked
+pub type RevokeAnswer = Result<Waiter, CapError>;
 
-#[derive(Clone, Copy)]
-pub enum QueuedAnswer {
-    Queued(usize),
-    BadCap,
-    BadTable,
-}
+// how many mailboxes the task was taken out of
+pub type ClearAnswer = Result<u32, TableError>;
 
-#[derive(Clone, Copy)]
-pub enum HoldersAnswer {
-    Holders(u32),
-    BadCap,
-    BadTable,
-}
+pub type NoteAnswer = Result<(), TableError>;
 
-#[derive(Clone, Copy)]
-pub enum RegisterAnswer {
-    Registered,
-    BadWord,
-    BadTable,
-}
+pub type RefusalsAnswer = Result<Refusals, TableError>;
 
-#[derive(Drop)]
-pub struct Registering {
-    pub answer: RegisterAnswer,
-    pub table: Table,
-}
-
-#[derive(Clone, Copy)]
-pub enum ReleaseAnswer {
-    Released,
-    BadTable,
-}
+// For the supervisor: an id opens, or for which reason it does not.
+pub type WhyAnswer = Result<(), WhyError>;
 
 // The waiters that the release took out stand first, in list order.
 #[derive(Drop)]
@@ -115,53 +43,64 @@ pub struct Releasing {
     pub table: Table,
 }
 
-#[derive(Drop)]
-pub enum RevokeAnswer {
-    Revoked(Waiter),
-    BadCap,
-    BadTable,
+// ---- refusals, by their numbers
+#[derive(Clone, Copy, PartialEq, Eq)]
+pub enum NewError {
+    BadSizes = 20,
 }
 
-#[derive(Drop)]
-pub struct Revoking {
-    pub answer: RevokeAnswer,
-    pub table: Table,
+#[derive(Clone, Copy, PartialEq, Eq)]
+pub enum CreateError {
+    NoMailbox = 6,
+    NoEndpoint = 7,
+    BadTable = 27,
 }
 
-#[derive(Clone, Copy)]
-pub enum ClearAnswer {
-    Cleared(u32),
-    BadTable,
+#[derive(Clone, Copy, PartialEq, Eq)]
+pub enum SendError {
+    // the sending row is from 54 up
+    BadRow = 19,
+    BadCap = 1,
+    Full = 2,
+    BadTable = 27,
 }
 
-#[derive(Drop)]
-pub struct Clearing {
-    pub answer: ClearAnswer,
-    pub table: Table,
+#[derive(Clone, Copy, PartialEq, Eq)]
+pub enum RecvError {
+    BadCap = 1,
+    Empty = 3,
+    BadTable = 27,
 }
 
-#[derive(Clone, Copy)]
-pub enum NoteAnswer {
-    Noted,
-    BadTable,
+#[derive(Clone, Copy, PartialEq, Eq)]
+pub enum ParkError {
+    BadCap = 1,
+    Busy = 4,
+    Cancelled = 5,
+    BadTable = 27,
 }
 
-#[derive(Drop)]
-pub struct Noting {
-    pub answer: NoteAnswer,
-    pub table: Table,
+// Of a call with an id that refuses nothing else.
+#[derive(Clone, Copy, PartialEq, Eq)]
+pub enum CapError {
+    BadCap = 1,
+    BadTable = 27,
 }
 
-#[derive(Clone, Copy)]
-pub enum RefusalsAnswer {
-    Counts(Refusals),
-    BadTable,
+#[derive(Clone, Copy, PartialEq, Eq)]
+pub enum RegisterError {
+    BadWord = 21,
+    BadTable = 27,
 }
 
-// For the supervisor: an id opens, or for which reason it does not.
-#[derive(Clone, Copy)]
-pub enum WhyAnswer {
-    Opens,
+// Of a call that a sound table never refuses.
+#[derive(Clone, Copy, PartialEq, Eq)]
+pub enum TableError {
+    BadTable = 27,
+}
+
+#[derive(Clone, Copy, PartialEq, Eq)]
+pub enum WhyError {
     Shut(Reason),
     BadTable,
 }

@@ -5,7 +5,6 @@
 #![tactic(auto)]
 
 pub mod answers;
-pub mod numbers;
 pub mod opening;
 pub mod showing;
 pub mod state;

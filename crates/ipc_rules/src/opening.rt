@@ -2,14 +2,14 @@
 ghost use Rattle.std.specs.Prelude.{◌≡◌};
 ghost use Rattle.ipc_rules.specs.Why.{reason_number};
 
-#[derive(Clone, Copy)]
+#[derive(Clone, Copy, PartialEq, Eq)]
 pub enum Opening {
     Opens(usize),
     Shut,
 }
 
 // Why an id opens nothing, in the order of the tests.
-#[derive(Clone, Copy)]
+#[derive(Clone, Copy, PartialEq, Eq)]
 pub enum Reason {
     PastEnd,
     Dead,
@@ -17,15 +17,8 @@ pub enum Reason {
     NoRight,
 }
 
-// What the four tests of an id come to: a mailbox, or the first that it fails.
-#[derive(Clone, Copy)]
-pub enum Attempt {
-    Passes(usize),
-    Fails(Reason),
-}
-
 // What an id is tried for. `Either` is one of the first two; a revocation asks for no right.
-#[derive(Clone, Copy)]
+#[derive(Clone, Copy, PartialEq, Eq)]
 pub enum Asked {
     Send,
     Receive,

@@ -22,7 +22,7 @@ pub struct Payload {
 
 // What stands in a ring and is given out: that, stamped with the sending row. The stamp is the last of its parts; it stands beside the
 // tag so that a message stays at 24 bytes.
-#[derive(Clone, Copy)]
+#[derive(Clone, Copy, PartialEq, Eq)]
 pub struct Message {
     pub tag: u32,
     pub row: u8,
@@ -30,14 +30,14 @@ pub struct Message {
     pub b: u64,
 }
 
-#[derive(Clone, Copy)]
+#[derive(Clone, Copy, PartialEq, Eq)]
 pub struct TaskId {
     pub slot: u16,
     pub epoch: u16,
 }
 
 // A place for one parked task.
-#[derive(Clone, Copy)]
+#[derive(Clone, Copy, PartialEq, Eq)]
 pub struct Waiter {
     pub present: bool,
     pub task: TaskId,
@@ -58,7 +58,7 @@ pub struct Refusals {
     pub state: u32,
 }
 
-#[derive(Clone, Copy)]
+#[derive(Clone, Copy, PartialEq, Eq)]
 pub struct Endpoint {
     pub live: bool,
     pub generation: u16,
@@ -67,7 +67,7 @@ pub struct Endpoint {
 }
 
 // The ring's places are in the table's `messages`. An ephemeral mailbox gives its waiter up when the last send hold goes.
-#[derive(Clone, Copy)]
+#[derive(Clone, Copy, PartialEq, Eq)]
 pub struct Mailbox {
     pub live: bool,
     pub ring: Ring,
@@ -139,11 +139,7 @@ pub const FRESH_ENDPOINT: Endpoint = Endpoint {
 
 pub const FRESH_MAILBOX: Mailbox = Mailbox {
     live: false,
-    ring: Ring {
-        head: 0,
-        tail: 0,
-        len: 0,
-    },
+    ring: Ring::FRESH,
     waiter: NOBODY,
     send_holders: 0,
     ephemeral: false,

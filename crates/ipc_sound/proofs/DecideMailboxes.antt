@@ -1,6 +1,7 @@
 -- The test of the mailboxes: each is as when fresh, or live with its two ends, its ring and no waiter that it should not have.
 -- Assumes nothing.
-use mathlib.Core.Path.{◌≡◌, ap}
+use Rattle.std.specs.Prelude.{None, Option, Some}
+use mathlib.Core.Path.{◌≡◌, refl, ap}
 use mathlib.Core.Bool.{Bool, true, false, ◌&&◌, not}
 use mathlib.Core.Logic.{◌⊎◌, inl, inr, ⊎_elim}
 use Prim.Native.Nat.{ℕ, ◌<◌}
@@ -9,7 +10,7 @@ use lib.Dec.{eqb, ltb}
 use Rattle.laws.proofs.Cases.{not_both}
 use Rattle.laws.specs.Pick.{pick}
 use Rattle.laws.specs.Every.{every}
-use Rattle.laws.proofs.Every.{every_at, at_every}
+use Rattle.laws.proofs.Every.{every_at, at_every, and_left, and_right}
 use Rattle.cap.specs.Rights.{send_right, receive_right}
 use Rattle.ring.specs.Ring.{IsRing, ring_test}
 use Rattle.ring.proofs.Tests.{ring_of, of_ring}
@@ -21,7 +22,7 @@ use Rattle.ipc_rules.specs.declared.state.Table.{Table}
 use Rattle.laws.proofs.Bools.{either, below?, and_four, picked, not_picked}
 use Rattle.ipc_sound.proofs.Elements.{fresh_mailbox_lem, Waits, waits_of, of_waits}
 use Rattle.ipc_sound.proofs.DecideEndpoints.{Known, one_end, end_found}
-use Rattle.ipc_sound.proofs.Shapes.{past, end_below}
+use Rattle.ipc_sound.proofs.Shapes.{past}
 
 -- the test of mailbox k
 abbrev pub passing : Table → ℕ → Bool
@@ -36,17 +37,18 @@ pub record Live (t : Table) (k : ℕ) : Type 0 where
   pub waits : Waits (mailbox_at t k)
 
 module _ (t : Table) (known : (i : ℕ) → Known t i) (k : ℕ) where
-  ends_of : ends_ok t.endpoints (send_end t.endpoints k) (recv_end t.endpoints k) ≡ true → Ends t.endpoints k
-  ends_of h =
-      let g = (endpoint_at t (send_end t.endpoints k)).generation in
-      let p = and_four (ltb (send_end t.endpoints k) 64) (ltb (recv_end t.endpoints k) 64) (eqb g (endpoint_at t (recv_end t.endpoints k)).generation) (not (eqb g 0)) h in
+  ends_of : (s r : Option ℕ) → send_end t.endpoints k ≡ s → recv_end t.endpoints k ≡ r → ends_ok t.endpoints s r ≡ true → Ends t.endpoints k
+  ends_of None r p q h = cc
+  ends_of (Some s) None p q h = cc
+  ends_of (Some s) (Some r) p q h =
+      let g = (endpoint_at t s).generation in
       record {
-        send = send_end t.endpoints k;
-        recv = recv_end t.endpoints k;
-        one_send = one_end t known send_right k (ltb-true _ _ p.0);
-        one_recv = one_end t known receive_right k (ltb-true _ _ p.1);
-        one_generation = eqb-true _ _ p.2;
-        some_generation = eqb-false g 0 (not-true (eqb g 0) p.3);
+        send = s;
+        recv = r;
+        one_send = one_end t known send_right k s p;
+        one_recv = one_end t known receive_right k r q;
+        one_generation = eqb-true _ _ (and_left (eqb g (endpoint_at t r).generation) (not (eqb g 0)) h);
+        some_generation = eqb-false g 0 (not-true (eqb g 0) (and_right (eqb g (endpoint_at t r).generation) (not (eqb g 0)) h));
       }
 
   kind : passing t k ≡ true → (mailbox_at t k ≡ fresh_mailbox) ⊎ Live t k
@@ -71,7 +73,7 @@ module _ (t : Table) (known : (i : ℕ) → Known t i) (k : ℕ) where
       live : b.live ≡ true → Live t k
       live v =
           let p = and_four below ends ring (waiter_test b) (picked b.live whole (is_fresh_mailbox b) h v) in
-          record { live = v; below = ltb-true _ _ p.0; ends = ends_of p.1; ring = ring_of _ b.ring p.2; waits = waits_of b p.3 }
+          record { live = v; below = ltb-true _ _ p.0; ends = ends_of _ _ refl refl p.1; ring = ring_of _ b.ring p.2; waits = waits_of b p.3 }
 
 pub kind_of : (t : Table) → Shape t → ((i : ℕ) → Known t i) → every (passing t) 32 ≡ true → (k : ℕ) → (mailbox_at t k ≡ fresh_mailbox) ⊎ Live t k
 kind_of t shape known h k =
@@ -86,12 +88,7 @@ module _ (t : Table) (σ : Sound t) (k : ℕ) where
   of_ends : Ends t.endpoints k → ends_ok t.endpoints (send_end t.endpoints k) (recv_end t.endpoints k) ≡ true
   of_ends e =
       rw (end_found t σ.shape send_right k e.send e.one_send, end_found t σ.shape receive_right k e.recv e.one_recv)
-      (simp (
-        lt-ltb _ _ (end_below t σ.shape e.send e.one_send.is.live),
-        lt-ltb _ _ (end_below t σ.shape e.recv e.one_recv.is.live),
-        eq-eqb _ _ e.one_generation,
-        ne_eqb _ _ e.some_generation,
-      ))
+      (simp (eq-eqb _ _ e.one_generation, ne_eqb _ _ e.some_generation))
 
   of_live : (below ends : Bool) → mailbox_live t k ≡ true → below ≡ true → ends ≡ true → mailbox_test (mailbox_at t k) below ends t.sizes.depth ≡ true
   unfolding mailbox_test pick

@@ -1,8 +1,10 @@
 -- The tests of single elements say what they are for, both ways. Assumes nothing.
-use mathlib.Core.Path.{◌≡◌, refl}
+use Rattle.std.specs.Prelude.{None, Option, Some}
+use Rattle.std.specs.Option.{option_eq}
+use mathlib.Core.Path.{◌≡◌, refl, ap}
 use mathlib.Core.Bool.{Bool, true, false, ◌&&◌, ◌||◌, not}
 use mathlib.Core.Logic.{⊎_elim}
-use Prim.Native.Nat.{◌<◌}
+use Prim.Native.Nat.{ℕ, ◌<◌}
 use borrow.Author.Tests.{eqb-true, eq-eqb, ltb-true, lt-ltb, not-true}
 use lib.Dec.{eqb, ltb}
 use Rattle.laws.proofs.Cases.{not_both}
@@ -58,6 +60,14 @@ fresh_mailbox_lem b h =
       send_holders = eqb-true b.send_holders 0 q.1 i;
       ephemeral = not-true b.ephemeral q.2 i;
     }
+
+-- ---- what was found
+pub found_at : (o : Option ℕ) (i : ℕ) → option_eq eqb o (Some i) ≡ true → o ≡ Some i
+found_at None i h = cc
+found_at (Some j) i h = ap Some (eqb-true j i h)
+
+pub at_found : (o : Option ℕ) (i : ℕ) → o ≡ Some i → option_eq eqb o (Some i) ≡ true
+at_found o i e = rw e (eq-eqb i i refl)
 
 -- ---- waiters
 -- a waiter means length 0, and on an ephemeral mailbox holds above 0

@@ -1,7 +1,6 @@
 pub mod Guards
 pub mod Elements
 pub mod Shapes
-pub mod Reading
 pub mod LastEnds
 pub mod DecidePlaces
 pub mod DecideEndpoints

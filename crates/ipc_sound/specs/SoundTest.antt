@@ -1,6 +1,7 @@
 -- Document 01, "A channel table is sound when ..", as a test: what is computed of a table before a call. That it says what `Sound` says is
 -- proved in proofs/Decide.antt.
-use Rattle.std.specs.Prelude.{◌≡◌, Bool, not, ◌&&◌, ◌||◌, List, ℕ, zero, suc, ◌<◌, ◌%◌, ◌/◌, eqb, ltb, get_or}
+use Rattle.std.specs.Prelude.{◌≡◌, Bool, false, not, ◌&&◌, ◌||◌, List, ℕ, zero, suc, ◌<◌, ◌%◌, ◌/◌, eqb, ltb, get_or, None, Option, Some, IfSome}
+use Rattle.std.specs.Option.{option_eq}
 use Rattle.laws.specs.Pick.{pick}
 use Rattle.laws.specs.Every.{every}
 use Rattle.cap.specs.Rights.{send_right, receive_right}
@@ -13,6 +14,7 @@ use Rattle.ipc_rules.specs.declared.state.Mailbox.{Mailbox}
 use Rattle.ipc_rules.specs.declared.state.Message.{Message}
 use Rattle.ipc_rules.specs.declared.state.Waiter.{Waiter}
 use Rattle.ipc_rules.specs.declared.state.Table.{Table}
+use Rattle.ipc_sound.specs.declared.Ends.{Ends}
 
 -- ---- as when fresh
 abbrev pub is_fresh_message : Message → Bool
@@ -42,21 +44,30 @@ place_ok t i = place_test (get_or t.messages i fresh_message) (mailbox_live t (i
 abbrev pub is_end : Endpoint → CapRights → ℕ → Bool
 is_end e w k = end_lives e && eqb e.rights.bits w.bits && eqb e.mailbox k
 
--- the last endpoint below n that is such an end of mailbox k, or 64 where there is none
-unfoldable pub last_end : List Endpoint → CapRights → ℕ → ℕ → ℕ
-last_end es w k zero = 64
-last_end es w k (suc n) = pick (is_end (end_in es n) w k) n (last_end es w k n)
+-- the last endpoint below n that is such an end of mailbox k
+unfoldable pub last_end : List Endpoint → CapRights → ℕ → ℕ → Option ℕ
+last_end es w k zero = None
+last_end es w k (suc n) = pick (is_end (end_in es n) w k) (Some n) (last_end es w k n)
 
 -- the last of all 64
-abbrev pub send_end : List Endpoint → ℕ → ℕ
+abbrev pub send_end : List Endpoint → ℕ → Option ℕ
 send_end es k = last_end es send_right k 64
 
-abbrev pub recv_end : List Endpoint → ℕ → ℕ
+abbrev pub recv_end : List Endpoint → ℕ → Option ℕ
 recv_end es k = last_end es receive_right k 64
 
 -- at each mailbox's place stands its last end with the right w below n
-pub record Remembers (es : List Endpoint) (w : CapRights) (n : ℕ) (at : List ℕ) : Type 0 where
-  pub last : (k : ℕ) → k < 32 → get_or at k 0 ≡ last_end es w k n
+pub record Remembers (es : List Endpoint) (w : CapRights) (n : ℕ) (at : List (Option ℕ)) : Type 0 where
+  pub last : (k : ℕ) → k < 32 → get_or at k None ≡ last_end es w k n
+
+-- both stand there, of all 64
+pub record LastOf (es : List Endpoint) (l : Ends) : Type 0 where
+  pub send : Remembers es send_right 64 l.send.at
+  pub recv : Remembers es receive_right 64 l.recv.at
+
+-- what was found is one of the 64
+abbrev pub IsPlace : Option ℕ → Type 0
+IsPlace o = IfSome o (λ i. i < 64)
 
 -- ---- endpoints
 -- a dead one is below the size or fresh; a live one is below the size, names a live mailbox, and is its last end of one right: there is
@@ -71,23 +82,22 @@ endpoint_test e below named send recv =
 unfoldable pub endpoint_ok : ℕ → List Endpoint → List Mailbox → ℕ → Bool
 endpoint_ok n es bs i =
     let e = end_in es i in
-    endpoint_test e (ltb i n) (box_live bs e.mailbox) (eqb (send_end es e.mailbox) i) (eqb (recv_end es e.mailbox) i)
+    endpoint_test e (ltb i n) (box_live bs e.mailbox) (option_eq eqb (send_end es e.mailbox) (Some i)) (option_eq eqb (recv_end es e.mailbox) (Some i))
 
 -- ---- mailboxes
 -- a waiter means length 0, and on an ephemeral mailbox holds above 0
 abbrev pub waiter_test : Mailbox → Bool
 waiter_test b = not b.waiter.present || eqb b.ring.len 0 && (not b.ephemeral || ltb 0 b.send_holders)
 
--- s and r are endpoints, and their generations g and h one, and not 0
-abbrev pub ends_test : ℕ → ℕ → ℕ → ℕ → Bool
-ends_test s r g h = ltb s 64 && ltb r 64 && eqb g h && not (eqb g 0)
+-- both ends are there, and their generations one, and not 0
+abbrev pub ends_ok : List Endpoint → Option ℕ → Option ℕ → Bool
+ends_ok es None r = false
+ends_ok es (Some s) None = false
+ends_ok es (Some s) (Some r) = eqb (end_in es s).generation (end_in es r).generation && not (eqb (end_in es s).generation 0)
 
 -- a dead one is fresh; a live one is below the size, has both ends, a ring, and no waiter that it should not have
 unfoldable pub mailbox_test : Mailbox → Bool → Bool → ℕ → Bool
 mailbox_test b below ends d = pick (box_lives b) (below && ends && ring_test d b.ring && waiter_test b) (is_fresh_mailbox b)
-
-abbrev pub ends_ok : List Endpoint → ℕ → ℕ → Bool
-ends_ok es s r = ends_test s r (end_in es s).generation (end_in es r).generation
 
 -- mailbox k of a table with m mailboxes of depth d
 unfoldable pub mailbox_ok : ℕ → ℕ → List Endpoint → List Mailbox → ℕ → Bool

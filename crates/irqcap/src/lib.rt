@@ -2,82 +2,38 @@
 #![tactic(auto)]
 
 ghost use Rattle.std.specs.Prelude.{◌≡◌};
-ghost use Rattle.irqcap.specs.Table.{fresh_table, free_entry_of, mint_of, lookup_of};
+ghost use Rattle.irqcap.specs.Table.{fresh_table, mint_of, lookup_of};
 
-use cap::{CapClass, CapId};
-use laws::Found;
-use mint::{Entry, LookupAnswer, MintAnswer};
+use cap::CapId;
+use mint::{IRQ_BASE, LookupAnswer};
 
 pub const MAX_IRQ_CAPS: usize = 8;
 
 // Index band: an id's index is `INDEX_BASE` + entry, so that it never meets an endpoint's.
-pub const INDEX_BASE: u16 = 32768;
+pub const INDEX_BASE: u16 = IRQ_BASE;
 
-#[derive(Clone, Copy)]
-pub struct Table {
-    pub entries: [Entry; MAX_IRQ_CAPS],
-}
+pub type Table = mint::Table<MAX_IRQ_CAPS>;
 
-#[derive(Drop)]
-pub struct Minted {
-    pub answer: MintAnswer,
-    pub table: Table,
-}
+pub type Minted = mint::Minted<MAX_IRQ_CAPS>;
 
 pub fn new() -> Table
     ensures { result ≡ fresh_table }
 {
-    let empty = Entry::EMPTY;
-    Table {
-        entries: [empty; MAX_IRQ_CAPS],
-    }
-}
-
-fn free_entry(t: Table) -> Found
-    ensures { result ≡ free_entry_of t }
-{
-    let mut i: usize = 0;
-    loop {
-        if i >= MAX_IRQ_CAPS {
-            break Found::Nowhere;
-        }
-        let e = t.entries[i];
-        if !e.live {
-            break Found::At(i);
-        }
-        i += 1;
-    }
+    Table::new()
 }
 
 // An id that the holder may wait on, for `cookie`.
-pub fn mint(mut t: Table, cookie: u32) -> Minted
+#[tactic(auto, unfolding(crate::specs::Table::mint_of))]
+pub fn mint(t: Table, cookie: u32) -> Minted
     ensures { result ≡ mint_of t cookie }
 {
-    let Found::At(i) = free_entry(t) else {
-        return Minted {
-            answer: MintAnswer::NoFreeEntry,
-            table: t,
-        };
-    };
-    let e = mint::minted(t.entries[i], cookie);
-    t.entries[i] = e;
-    let id = CapId::new(INDEX_BASE + i as u16, e.generation);
-    Minted {
-        answer: MintAnswer::Minted(id),
-        table: t,
-    }
+    mint::inner::mint(t, INDEX_BASE, cookie)
 }
 
-// The cookie that `cap` names: nothing re-derives the class bits, `classify` reads them.
+// The cookie that `cap` names.
+#[tactic(auto, unfolding(crate::specs::Table::lookup_of))]
 pub fn lookup(t: Table, cap: CapId) -> LookupAnswer
     ensures { result ≡ lookup_of t cap }
 {
-    let CapClass::Irq(local) = cap.classify() else {
-        return LookupAnswer::BadCap;
-    };
-    let i = local as usize;
-    if i >= MAX_IRQ_CAPS {
-        return LookupAnswer::BadCap;
-    }
-    mint::names(t.entries[i], cap.generation())
+    t.lookup(INDEX_BASE, cap)
 }

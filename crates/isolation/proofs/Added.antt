@@ -1,4 +1,5 @@
 -- The channel table after an opening: a channel more with one hold on it, and every other as it was. Assumes nothing.
+use Rattle.std.specs.Prelude.{Ok}
 use mathlib.Core.Path.{◌≡◌, sym, ap, ◌∙◌}
 use mathlib.Core.Bool.{true}
 use mathlib.Core.List.{[]}
@@ -20,7 +21,6 @@ use Rattle.ipc_rules.specs.Views.{queue_of, hold_count, Alike}
 use Rattle.ipc_rules.specs.declared.opening.Opening.TheVariants.{Opens, Shut}
 use Rattle.ipc_rules.specs.declared.state.Channel.{Channel}
 use Rattle.ipc_rules.specs.declared.state.Table.{Table as Channels}
-use Rattle.ipc_rules.specs.declared.answers.CreateAnswer.TheVariants.{Created}
 use Rattle.ipc_rules.proofs.AfterCreate.{Creates, CreateWays, no_mailbox, no_endpoint, created, create_ways}
 use Rattle.ipc_rules.proofs.AfterRegister.{Registers, RegisterWays, skipped, counted, register_ways}
 use Rattle.ipc_rules.proofs.Changes.{alike_then}
@@ -129,7 +129,7 @@ pub record Added (t : Channels) (ends : Channel) : Type 0 where
   pub box : ℕ
   pub is : Adds t ends box (channel_made t ends)
 
-pub channel_added : (t : Channels) (ends : Channel) → Sound t → (create_of t true).answer ≡ Created ends → Added t ends
+pub channel_added : (t : Channels) (ends : Channel) → Sound t → (create_of t true).answer ≡ Ok ends → Added t ends
 channel_added t ends σ e = by (create_ways t true σ)
   where
     by : CreateWays t true (create_of t true) → Added t ends

@@ -1,12 +1,12 @@
 -- Dispatcher calls are runs of the channel table's calls, and answer as these do. Assumes nothing.
+use Rattle.std.specs.Prelude.{Err, Ok, Result}
 use mathlib.Core.Path.{◌≡◌, refl, sym, ap, ◌∙◌}
 use mathlib.Core.Bool.{true}
 use mathlib.Core.List.{List, [], ◌∷◌}
 use Prim.Native.Nat.{ℕ}
 use Rattle.cap.specs.Slot.{holding}
 use Rattle.cap.specs.declared.CapId.{CapId}
-use Rattle.cap.specs.declared.slot.SlotAnswer.{SlotAnswer}
-use Rattle.cap.specs.declared.slot.SlotAnswer.TheVariants.{Names, OutOfRange, Vacant}
+use Rattle.cap.specs.declared.slot.SlotError.TheVariants.{OutOfRange, Vacant}
 use Rattle.capslots.specs.Rows.{get_of}
 use Rattle.ipc_rules.specs.Create.{create_of}
 use Rattle.ipc_rules.specs.Holds.{registered}
@@ -32,7 +32,7 @@ use Rattle.dispatcher_rules.specs.declared.answers.Ending.{Ending}
 use Rattle.dispatcher_rules.specs.declared.answers.SlotSending.{SlotSending}
 use Rattle.dispatcher_rules.specs.declared.answers.SlotReceiving.{SlotReceiving}
 use Rattle.dispatcher_rules.specs.declared.answers.SlotParking.{SlotParking}
-use Rattle.dispatcher_rules.specs.declared.answers.OpenAnswer as opening
+use Rattle.dispatcher_rules.specs.declared.answers.OpenError.TheVariants as opening
 use Rattle.dispatcher_rules.proofs.Ways.{open_ways, close_ways}
 use Rattle.isolation.specs.Runs.{JobCall, open_for, close, send, receive, park, after, run, start}
 use Rattle.isolation.specs.Jobs.{job_in}
@@ -42,17 +42,20 @@ use Rattle.isolation.proofs.Ended.{end_is}
 use Rattle.isolation.proofs.Kept.{Kept}
 use Rattle.isolation.proofs.KeptOpen.{both_given_lem}
 use Rattle.isolation.proofs.Reaches.{serves, after_kept, start_kept}
+use Rattle.cap.specs.declared.slot.SlotError.{SlotError}
+use Rattle.dispatcher_rules.specs.declared.answers.OpenedJob.{OpenedJob}
+use Rattle.dispatcher_rules.specs.declared.answers.OpenError.{OpenError}
 
-no_calls : (a : opening.OpenAnswer) → (open_number a ≡ 0 → ⊥) → open_calls a ≡ []
+no_calls : (a : Result OpenedJob OpenError) → (open_number a ≡ 0 → ⊥) → open_calls a ≡ []
 unfolding open_calls
-no_calls (opening.TheVariants.Opened j) n = absurd (n refl)
-no_calls opening.TheVariants.NoVariant n = refl
-no_calls opening.TheVariants.BadRow n = refl
-no_calls opening.TheVariants.JobsFull n = refl
-no_calls opening.TheVariants.NoMailbox n = refl
-no_calls opening.TheVariants.NoEndpoint n = refl
-no_calls opening.TheVariants.BadSlot n = refl
-no_calls opening.TheVariants.BadTable n = refl
+no_calls (Ok j) n = absurd (n refl)
+no_calls (Err opening.NoVariant) n = refl
+no_calls (Err opening.BadRow) n = refl
+no_calls (Err opening.JobsFull) n = refl
+no_calls (Err opening.NoMailbox) n = refl
+no_calls (Err opening.NoEndpoint) n = refl
+no_calls (Err opening.BadSlot) n = refl
+no_calls (Err opening.BadTable) n = refl
 
 -- ---- the world beside the desk
 module _ (v : world.World) (reached : world.Reached v) where
@@ -69,13 +72,13 @@ module _ (v : world.World) (reached : world.Reached v) where
       ∙ ap (λ (t : Channels). registered (registered t (holding a)) (holding b)) (step_table v (calls.create true))
 
   -- the calls by a slot: none, or one
-  by_slot : {A : Type 0} (t : Channels) → v.table ≡ t → (a : SlotAnswer) (call : CapId → calls.Call) (left : A → Channels) (out : ℕ → ℕ → A) (vacant : ℕ → A) (named : CapId → A) →
+  by_slot : {A : Type 0} (t : Channels) → v.table ≡ t → (a : Result CapId SlotError) (call : CapId → calls.Call) (left : A → Channels) (out : ℕ → ℕ → A) (vacant : ℕ → A) (named : CapId → A) →
       ((i n : ℕ) → left (out i n) ≡ t) → ((i : ℕ) → left (vacant i) ≡ t) → ((c : CapId) → left (named c) ≡ calls.after t (call c)) →
       (world.run v (slotted a (λ _ _. []) (λ _. []) (λ c. call c ∷ []))).table ≡ left (slotted a out vacant named)
   unfolding slotted world.run
-  by_slot t e (OutOfRange i n) call left out vacant named x y z = e ∙ sym (x i n)
-  by_slot t e (Vacant i) call left out vacant named x y z = e ∙ sym (y i)
-  by_slot t e (Names c) call left out vacant named x y z = step_table v (call c) ∙ ap (λ (u : Channels). calls.after u (call c)) e ∙ sym (z c)
+  by_slot t e (Err (OutOfRange i n)) call left out vacant named x y z = e ∙ sym (x i n)
+  by_slot t e (Err (Vacant i)) call left out vacant named x y z = e ∙ sym (y i)
+  by_slot t e (Ok c) call left out vacant named x y z = step_table v (call c) ∙ ap (λ (u : Channels). calls.after u (call c)) e ∙ sym (z c)
 
   module _ (w : Desk) (κ : Kept w) (e : v.table ≡ w.channels) where
     abbrev t : Channels

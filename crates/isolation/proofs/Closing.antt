@@ -1,4 +1,5 @@
 -- What a closing leaves. Assumes nothing.
+use Rattle.std.specs.Prelude.{Err, Ok}
 use mathlib.Core.Path.{◌≡◌, refl, sym, ap, ◌∙◌}
 use Prim.Native.Nat.{ℕ}
 use Rattle.cap.specs.Rights.{send_right, receive_right}
@@ -17,7 +18,7 @@ use Rattle.dispatcher_rules.specs.Close.{close_refused, job_closed, close_job_of
 use Rattle.dispatcher_rules.specs.declared.state.Desk.{Desk}
 use Rattle.dispatcher_rules.specs.declared.state.Job.{Job}
 use Rattle.dispatcher_rules.specs.declared.answers.JobClosing.{JobClosing}
-use Rattle.dispatcher_rules.specs.declared.answers.CloseAnswer.TheVariants.{Closed, BadTable}
+use Rattle.dispatcher_rules.specs.declared.answers.CloseError.TheVariants.{BadTable}
 use Rattle.isolation.specs.Runs.{closing, after}
 use Rattle.isolation.specs.Jobs.{job_in, OpenIn}
 use Rattle.isolation.specs.Closing.{ClosingEnds}
@@ -39,7 +40,7 @@ shut t u k r c some o need = by (opening_of u c need) refl
 
 closing_is : (w : Desk) → Kept w → (p : ℕ) → OpenIn w p → closing w p ≡ job_closed w.dispatcher w.rows w.channels p (job_in w p)
 closing_is w κ p o =
-    serves w.dispatcher w.channels κ.ready (close_refused BadTable w.dispatcher w.rows w.channels) (close_job_of w.dispatcher w.rows w.channels p)
+    serves w.dispatcher w.channels κ.ready (close_refused (Err BadTable) w.dispatcher w.rows w.channels) (close_job_of w.dispatcher w.rows w.channels p)
     ∙ close_done w κ p (open_inside w.dispatcher p κ.places o) o
 
 pub closing_ends : ClosingEnds
@@ -50,7 +51,7 @@ closing_ends w ρ p o mine =
     let e = channel_ended w.channels (job_in w p).ends.send mine.box κ.ready.sound c.sends in
     let is = closing_is w κ p o in
     record {
-      answers = ap (λ (x : JobClosing). x.answer) is ∙ ap Closed e.waiter;
+      answers = ap (λ (x : JobClosing). x.answer) is ∙ ap Ok e.waiter;
       nobody_waits = ap (λ (x : JobClosing). waiter_of x.channels mine.box) is ∙ e.gone.waiter;
       gone = ap (λ (x : JobClosing). mailbox_live x.channels mine.box) is ∙ e.gone.live;
       send_shut = λ need. ap (λ (x : JobClosing). opening_of x.channels (job_in w p).ends.send need) is ∙ shut _ _ _ e.gone _ send_right c.sends need;

@@ -1,5 +1,6 @@
 -- The channel table after a closing: the job's channel is gone, its waiter is the answer, and every other channel is as it was. Assumes
 -- nothing.
+use Rattle.std.specs.Prelude.{Ok}
 use mathlib.Core.Path.{◌≡◌, refl, sym, ap, ◌∙◌}
 use Prim.Native.Nat.{ℕ}
 use Rattle.cap.specs.Rights.{send_right}
@@ -12,7 +13,6 @@ use Rattle.ipc_rules.specs.Views.{waiter_of}
 use Rattle.ipc_rules.specs.declared.opening.Opening.{Opening}
 use Rattle.ipc_rules.specs.declared.opening.Opening.TheVariants.{Opens, Shut}
 use Rattle.ipc_rules.specs.declared.state.Table.{Table as Channels}
-use Rattle.ipc_rules.specs.declared.answers.RevokeAnswer.TheVariants.{Revoked}
 use Rattle.ipc_rules.proofs.AfterRevoke.{Revokes, RevokeWays, bad_cap, revoked, revoke_ways}
 use Rattle.ipc_rules.proofs.Openings.{either_is}
 use Rattle.ipc_rules.proofs.OtherOpenings.{any_is}
@@ -26,7 +26,7 @@ unfolding opened
 any_sends t c k s o = any_is t c s ∙ either_is t c ∙ rw o
 
 pub record Ends (t : Channels) (c : CapId) (k : ℕ) : Type 0 where
-  pub answer : (revoke_of t c).answer ≡ Revoked (waiter_of t k)
+  pub answer : (revoke_of t c).answer ≡ Ok (waiter_of t k)
   pub waiter : (end_of t c).waiter ≡ waiter_of t k
   pub gone : Revokes t k (end_of t c).channels
 
@@ -43,7 +43,7 @@ channel_ended t c k s o = by (revoke_ways t c s)
     by (revoked j h _ a r) =
         let e = sym h ∙ any_sends t c k s o in
         let q : j ≡ k = cc in
-        record { answer = a ∙ ap (λ (i : ℕ). Revoked (waiter_of t i)) q; waiter = ap (λ (x : Ending). x.waiter) (end_is t c k o) ∙ ap woken_by a ∙ ap (waiter_of t) q; gone = rw (end_is t c k o, ← q) r }
+        record { answer = a ∙ ap (λ (i : ℕ). Ok (waiter_of t i)) q; waiter = ap (λ (x : Ending). x.waiter) (end_is t c k o) ∙ ap woken_by a ∙ ap (waiter_of t) q; gone = rw (end_is t c k o, ← q) r }
 
 -- what did not open does not
 pub shut_stays : (t u : Channels) (k : ℕ) → Revokes t k u → (c : CapId) (need : CapRights) → opening_of t c need ≡ Shut → opening_of u c need ≡ Shut

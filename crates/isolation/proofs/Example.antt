@@ -1,6 +1,7 @@
 -- Two jobs, pt-PT and pt-BR, computed: a sentence sent for each, and each handed out in the row that its tag is bound to; then the customer's
 -- accident, an old slot tried after its job was closed. The premises are met, and the theorems say from which job each came. Assumes
 -- nothing.
+use Rattle.std.specs.Prelude.{Err, None, Ok}
 use mathlib.Core.Path.{◌≡◌, refl, ap, ◌∙◌}
 use mathlib.Core.List.{List, [], ◌∷◌}
 use Prim.Native.Nat.{ℕ}
@@ -22,7 +23,6 @@ use Rattle.ipc_rules.specs.Revoke.{killed, wiped, revoke_of}
 use Rattle.ipc_rules.specs.declared.state.Message.{Message}
 use Rattle.ipc_rules.specs.declared.state.Payload.{Payload}
 use Rattle.ipc_rules.specs.declared.state.TaskId.{TaskId}
-use Rattle.ipc_rules.specs.declared.answers.ParkAnswer.TheVariants.{Parked}
 use Rattle.joined.specs.Steps.{give_of, installs}
 use Rattle.history.specs.Traffic.{by_receive}
 use Rattle.dispatcher_rules.specs.State.{no_variant}
@@ -34,11 +34,9 @@ use Rattle.dispatcher_rules.specs.Slots.{slotted, slot_send_of, slot_recv_of, sl
 use Rattle.dispatcher_rules.specs.declared.state.Desk.{Desk}
 use Rattle.dispatcher_rules.specs.declared.state.Tag.{Tag}
 use Rattle.dispatcher_rules.specs.declared.state.Variant.{Variant}
-use Rattle.dispatcher_rules.specs.declared.answers.MakeAnswer.TheVariants.{Made}
 use Rattle.dispatcher_rules.specs.declared.answers.SlotReceiving.{SlotReceiving}
-use Rattle.dispatcher_rules.specs.declared.answers.SlotRecvAnswer.TheVariants.{Vacant}
+use Rattle.dispatcher_rules.specs.declared.answers.BySlotError.TheVariants.{Vacant}
 use Rattle.dispatcher_rules.specs.declared.answers.SlotParking.{SlotParking}
-use Rattle.dispatcher_rules.specs.declared.answers.SlotParkAnswer.TheVariants.{Answered}
 use Rattle.isolation.specs.Runs.{JobCall, open_for, close, send, receive, park, receiving, run, start, Reached, fresh}
 use Rattle.isolation.specs.Jobs.{if_received, handed_to}
 use Rattle.isolation.specs.Isolation.{FromItsJob}
@@ -75,7 +73,7 @@ theirs = record { tag = 8; row = 1; a = 300; b = 400 }
 abbrev morning : List JobCall
 morning = open_for pt_PT 1 ∷ open_for pt_BR 1 ∷ send 1 0 our_parts ∷ send 1 1 their_parts ∷ []
 
-made : (make_of 2 variants).answer ≡ Made
+made : (make_of 2 variants).answer ≡ Ok tt
 unfolding make_of bound_test every pick
 made = refl
 
@@ -157,12 +155,12 @@ abbrev ruled : Desk
 ruled = rule_run begun evening
 
 -- by the rules the old slot is empty, and the sentence comes out in the other row
-later_by_rule : ((slot_recv_of ruled.dispatcher ruled.rows ruled.channels 3 0).answer ≡ Vacant 0)
+later_by_rule : ((slot_recv_of ruled.dispatcher ruled.rows ruled.channels 3 0).answer ≡ Err (Vacant 0))
     × (if_received (slot_recv_of ruled.dispatcher ruled.rows ruled.channels 4 0).answer ≡ theirs ∷ [])
 unfolding rule_run rule_after make_of bound_test every open_job_of creates gives_both close_job_of end_of slot_send_of slot_recv_of slot_park_of slotted if_received by_receive get_of from_slot empty_slot_of install_of forgotten_of forget_in give_of installs create_of registered revoke_of killed wiped onOpening hold_of opening_of open_of any_right_of open_any next_generation raised send_of recv_of park_of found lowest_free lowest pick attempt_of told
 later_by_rule = (refl, refl)
 
-pub old_slot : (receiving later 3 0).answer ≡ Vacant 0
+pub old_slot : (receiving later 3 0).answer ≡ Err (Vacant 0)
 old_slot = answered evening 3 0 ∙ later_by_rule.0
 
 pub theirs_later : handed_to later 4 (receive 4 0) ≡ theirs ∷ []
@@ -176,7 +174,7 @@ theirs_from_later = isolation (sizes_of 2 4 1) refl 2 variants made evening (rec
 abbrev parked : Desk
 parked = run begun (open_for pt_PT 1 ∷ [])
 
-park_by_rule : (slot_park_of (rule_run begun (open_for pt_PT 1 ∷ [])).dispatcher (rule_run begun (open_for pt_PT 1 ∷ [])).rows (rule_run begun (open_for pt_PT 1 ∷ [])).channels 3 0 filter).answer ≡ Answered Parked
+park_by_rule : (slot_park_of (rule_run begun (open_for pt_PT 1 ∷ [])).dispatcher (rule_run begun (open_for pt_PT 1 ∷ [])).rows (rule_run begun (open_for pt_PT 1 ∷ [])).channels 3 0 filter).answer ≡ Ok (Ok None)
 unfolding rule_run rule_after make_of bound_test every open_job_of creates gives_both slot_park_of slotted get_of from_slot empty_slot_of install_of give_of installs create_of registered onOpening hold_of opening_of open_of next_generation raised park_of found lowest_free lowest pick attempt_of told
 park_by_rule = refl
 

@@ -1,5 +1,6 @@
 -- A call that does not close a place leaves the job there as it is, and what the call hands out from it and then what waits is what waited
 -- and then what the call has accepted for it. Assumes nothing.
+use Rattle.std.specs.Prelude.{Some, Err, Ok, Result}
 use mathlib.Core.Path.{◌≡◌, refl, sym, ap, ◌∙◌}
 use mathlib.Core.Bool.{Bool, true, false}
 use mathlib.Core.List.{List, [], ◌∷◌, ◌++◌, append-nil}
@@ -8,7 +9,6 @@ use Prim.Native.Nat.{ℕ}
 use lib.Dec.{eqb}
 use borrow.Author.Tests.{eqb-false, eq-eqb, ne_eqb}
 use Rattle.laws.specs.Pick.{pick}
-use Rattle.laws.specs.declared.Found.TheVariants.{At}
 use Rattle.laws.proofs.Bools.{same?}
 use Rattle.laws.proofs.Cases.{not_both}
 use Rattle.laws.proofs.Search.{lowest_at}
@@ -28,8 +28,7 @@ use Rattle.ipc_rules.specs.declared.state.Message.{Message}
 use Rattle.ipc_rules.specs.declared.state.Payload.{Payload}
 use Rattle.ipc_rules.specs.declared.state.TaskId.{TaskId}
 use Rattle.ipc_rules.specs.declared.state.Table.{Table as Channels}
-use Rattle.ipc_rules.specs.declared.answers.Sending.{Sending}
-use Rattle.ipc_rules.specs.declared.answers.SendAnswer as sending
+use Rattle.ipc_rules.specs.declared.answers.SendError.TheVariants as sending
 use Rattle.ipc_rules.proofs.AfterSend.{Sends, SendWays, bad_row, bad_cap, full, sent, send_ways}
 use Rattle.ipc_rules.proofs.AfterReceive as recv
 use Rattle.ipc_rules.proofs.AfterPark as park
@@ -44,10 +43,8 @@ use Rattle.dispatcher_rules.specs.declared.state.Tag.{Tag}
 use Rattle.dispatcher_rules.specs.declared.answers.JobOpening.{JobOpening}
 use Rattle.dispatcher_rules.specs.declared.answers.JobClosing.{JobClosing}
 use Rattle.dispatcher_rules.specs.declared.answers.SlotSending.{SlotSending}
-use Rattle.dispatcher_rules.specs.declared.answers.SlotSendAnswer as send
+use Rattle.dispatcher_rules.specs.declared.answers.BySlotError.TheVariants as send
 use Rattle.dispatcher_rules.specs.declared.answers.SlotReceiving.{SlotReceiving}
-use Rattle.dispatcher_rules.specs.declared.answers.SlotRecvAnswer as received
-use Rattle.dispatcher_rules.specs.declared.answers.SlotParkAnswer as parked
 use Rattle.dispatcher_rules.specs.declared.answers.SlotParking.{SlotParking}
 use Rattle.dispatcher_rules.proofs.Ways.{open_ways, close_ways, all_slotted}
 use Rattle.isolation.specs.Runs.{JobCall, open_for, close, send, receive, park, opened, closed, sent as sentDesk, received as receivedDesk, parked as parkedDesk, after}
@@ -61,6 +58,10 @@ use Rattle.isolation.proofs.Places.{other_job}
 use Rattle.isolation.proofs.Reaches.{serves}
 use Rattle.isolation.proofs.Slots.{get_names}
 use Rattle.isolation.proofs.Whose.{holds_send, holds_recv}
+use Rattle.ipc_rules.specs.declared.state.Waiter.{Waiter}
+use Rattle.ipc_rules.specs.declared.answers.SendError.{SendError}
+use Rattle.shown.specs.declared.Answered.{Answered}
+use Rattle.dispatcher_rules.specs.declared.answers.BySlotError.{BySlotError}
 
 -- the job in place p, of mailbox k, is as it was on desk v, and its queue is so far on
 pub record Flows (w : Desk) (p k : ℕ) (v : Desk) (out into : List Message) : Type 0 where
@@ -69,7 +70,7 @@ pub record Flows (w : Desk) (p k : ℕ) (v : Desk) (out into : List Message) : T
   pub order : out ++ queue_of v.channels k ≡ queue_of w.channels k ++ into
 
 -- a job that is open is in no free place
-taken : (w : Desk) (p i : ℕ) → OpenIn w p → free_place w.dispatcher ≡ At i → p ≡ i → ⊥
+taken : (w : Desk) (p i : ℕ) → OpenIn w p → free_place w.dispatcher ≡ Some i → p ≡ i → ⊥
 taken w p i o f e = not_both _ (rw e at o) (lowest_at (λ q. (job_at w.dispatcher q).«open») 0 16 i f).free
 
 -- no counts anew
@@ -113,7 +114,7 @@ module _ (w : Desk) (κ : Kept w) (p k : ℕ) (mine : OpenIn w p) (opens : openi
       idle _ (other_job w.dispatcher i no_job p (λ h. ne (sym h))) (e.still _ _ k other opens) (e.others k other).queue)
 
   -- a message put into mailbox j, and one taken out of it
-  puts : (j : ℕ) (m : Message) (o : Sending) → Sends t m j o → Flows w p k (with_channels w o.table) [] (pick (eqb j k) (m ∷ []) [])
+  puts : (j : ℕ) (m : Message) (o : Answered (Result Waiter SendError) Channels) → Sends t m j o → Flows w p k (with_channels w o.table) [] (pick (eqb j k) (m ∷ []) [])
   unfolding pick
   puts j m o x =
       let q = x.queue in
@@ -135,26 +136,26 @@ module _ (w : Desk) (κ : Kept w) (p k : ℕ) (mine : OpenIn w p) (opens : openi
       abbrev m : Message
       m = stamped x r
 
-      abbrev into : send.SlotSendAnswer → List Message
+      abbrev into : Result (Result Waiter SendError) BySlotError → List Message
       into a = pick (slot_holds w r s (job_in w p).ends.send) (if_accepted a m) []
 
       -- refused, it leaves the queue
-      unsent : (a : send.SlotSendAnswer) (u : Channels) → if_accepted a m ≡ [] → OnlyCounts t u → Flows w p k (with_channels w u) [] (into a)
+      unsent : (a : Result (Result Waiter SendError) BySlotError) (u : Channels) → if_accepted a m ≡ [] → OnlyCounts t u → Flows w p k (with_channels w u) [] (into a)
       unsent a u e y = rw (e, pick_same (slot_holds w r s (job_in w p).ends.send)) (idle (with_channels w u) refl (y.steady.opening _ _ ∙ opens) (y.mailboxes k).queue)
 
       sent_by : (c : CapId) → slot_in w.rows r s ≡ holding c → SendWays t c x r (send_of t c x r) →
-          Flows w p k (with_channels w (send_of t c x r).table) [] (into (send.TheVariants.Answered (send_of t c x r).answer))
+          Flows w p k (with_channels w (send_of t c x r).table) [] (into (Ok (send_of t c x r).answer))
       unfolding if_accepted if_sent
-      sent_by c h (bad_row _ q) = rw q (unsent (send.TheVariants.Answered sending.TheVariants.BadRow) _ refl (none_anew t))
-      sent_by c h (bad_cap _ _ q) = rw q (unsent (send.TheVariants.Answered sending.TheVariants.BadCap) _ refl (counts_anew t _))
-      sent_by c h (full _ _ _ _ q) = rw q (unsent (send.TheVariants.Answered sending.TheVariants.Full) _ refl (counts_anew t _))
+      sent_by c h (bad_row _ q) = rw q (unsent (Ok (Err sending.BadRow)) _ refl (none_anew t))
+      sent_by c h (bad_cap _ _ q) = rw q (unsent (Ok (Err sending.BadCap)) _ refl (counts_anew t _))
+      sent_by c h (full _ _ _ _ q) = rw q (unsent (Ok (Err sending.Full)) _ refl (counts_anew t _))
       sent_by c h (sent _ a y) = rw (y.answer, holds_send w κ r s c h a.box p k mine opens a.opens) (puts a.box m _ y)
 
       pub send_flows : let o = slot_send_of w.dispatcher w.rows t r s x in Flows w p k (sentDesk o) [] (into o.answer)
       unfolding slot_send_of if_accepted
       send_flows =
           all_slotted (λ (o : SlotSending). Flows w p k (sentDesk o) [] (into o.answer)) _ _ _ _
-          (λ i n _. unsent (send.TheVariants.OutOfRange i n) t refl (none_anew t)) (λ i _. unsent (send.TheVariants.Vacant i) t refl (none_anew t))
+          (λ i n _. unsent (Err (send.OutOfRange i n)) t refl (none_anew t)) (λ i _. unsent (Err (send.Vacant i)) t refl (none_anew t))
           (λ c e. sent_by c (get_names w.rows r s c e) (send_ways t c x r σ))
 
     -- ---- a receiving
@@ -166,7 +167,7 @@ module _ (w : Desk) (κ : Kept w) (p k : ℕ) (mine : OpenIn w p) (opens : openi
     unhanded u ms e h q = rw (e, pick_same (slot_holds w r s (job_in w p).ends.recv)) (idle (with_channels w u) refl (h.opening _ _ ∙ opens) q)
 
     received_by : (c : CapId) → slot_in w.rows r s ≡ holding c → recv.RecvWays t c (recv_of t c) →
-        Flows w p k (with_channels w (recv_of t c).table) (out (if_received (received.TheVariants.Answered (recv_of t c).answer))) []
+        Flows w p k (with_channels w (recv_of t c).table) (out (if_received (Ok (recv_of t c).answer))) []
     unfolding if_received by_receive
     received_by c h (recv.bad_cap _ q) = rw q (unhanded _ _ refl (counts_anew t _).steady ((counts_anew t _).mailboxes k).queue)
     received_by c h (recv.empty _ _ _ q) = rw q (unhanded _ _ refl (steady_same t) refl)
@@ -181,7 +182,7 @@ module _ (w : Desk) (κ : Kept w) (p k : ℕ) (mine : OpenIn w p) (opens : openi
 
     -- ---- a parking
     parked_by : (c : CapId) (task : TaskId) → slot_in w.rows r s ≡ holding c → park.ParkWays t c task (park_of t c task) →
-        Flows w p k (with_channels w (park_of t c task).table) (out (if_given (parked.TheVariants.Answered (park_of t c task).answer))) []
+        Flows w p k (with_channels w (park_of t c task).table) (out (if_given (Ok (park_of t c task).answer))) []
     unfolding if_given by_park
     parked_by c task h (park.bad_cap _ q) = rw q (unhanded _ _ refl (counts_anew t _).steady ((counts_anew t _).mailboxes k).queue)
     parked_by c task h (park.given j m o a g) = rw (a, holds_recv w κ r s c h j p k mine opens o) (takes j m _ g)

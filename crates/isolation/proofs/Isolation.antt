@@ -1,4 +1,5 @@
 -- The customer's sentence: a message is handed out only to the row that its job's tag is bound to. Assumes nothing.
+use Rattle.std.specs.Prelude.{Ok}
 use mathlib.Core.Path.{◌≡◌, refl, sym, ap, subst, ◌∙◌}
 use mathlib.Core.Bool.{true, false}
 use mathlib.Core.List.Memᴰ
@@ -30,8 +31,6 @@ use Rattle.dispatcher_rules.specs.declared.state.Job.{Job}
 use Rattle.dispatcher_rules.specs.declared.state.Tag.{Tag}
 use Rattle.dispatcher_rules.specs.declared.answers.SlotReceiving.{SlotReceiving}
 use Rattle.dispatcher_rules.specs.declared.answers.SlotParking.{SlotParking}
-use Rattle.dispatcher_rules.specs.declared.answers.SlotRecvAnswer as received
-use Rattle.dispatcher_rules.specs.declared.answers.SlotParkAnswer as parked
 use Rattle.dispatcher_rules.proofs.Promises.{made_closed}
 use Rattle.dispatcher_rules.proofs.Ways.{all_slotted}
 use Rattle.isolation.specs.Runs.{JobCall, open_for, close, send, receive, park, receiving, parking, run, start}
@@ -71,7 +70,7 @@ module _ (w : Desk) (κ : Kept w) (r s : ℕ) (m : Message) where
       (λ c g. by c (get_names w.rows r s c g) (recv.recv_ways w.channels c κ.ready.sound))
     where
       by : (c : CapId) → slot_in w.rows r s ≡ holding c → recv.RecvWays w.channels c (recv_of w.channels c) →
-          if_received (received.TheVariants.Answered (recv_of w.channels c).answer) ≡ m ∷ [] → Hands w r s m
+          if_received (Ok (recv_of w.channels c).answer) ≡ m ∷ [] → Hands w r s m
       by c h (recv.bad_cap _ q) e = none_one (rw q at e)
       by c h (recv.empty _ _ _ q) e = none_one (rw q at e)
       by c h (recv.received k n o a g) e =
@@ -85,7 +84,7 @@ module _ (w : Desk) (κ : Kept w) (r s : ℕ) (m : Message) where
       (λ c g. by c (get_names w.rows r s c g) (park.park_ways w.channels c task κ.ready.sound))
     where
       by : (c : CapId) → slot_in w.rows r s ≡ holding c → park.ParkWays w.channels c task (park_of w.channels c task) →
-          if_given (parked.TheVariants.Answered (park_of w.channels c task).answer) ≡ m ∷ [] → Hands w r s m
+          if_given (Ok (park_of w.channels c task).answer) ≡ m ∷ [] → Hands w r s m
       by c h (park.bad_cap _ q) e = none_one (rw q at e)
       by c h (park.given k n o a g) e =
           let f : n ≡ m = first_same (rw a at e) in

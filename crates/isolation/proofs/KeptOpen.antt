@@ -1,11 +1,11 @@
 -- An opening keeps it: its ids stand in the two slots that were found empty, its channel is new, and the other jobs are as they were. Assumes
 -- nothing.
+use Rattle.std.specs.Prelude.{Some, Ok}
 use mathlib.Core.Path.{◌≡◌, refl, sym, ap, ◌∙◌}
 use mathlib.Core.Bool.{true, false, not}
 use mathlib.Core.Logic.{◌⊎◌, inl, inr, ⊎_elim}
 use Prim.Native.Nat.{ℕ, ◌<◌}
 use borrow.Author.Tests.{not-false}
-use Rattle.laws.specs.declared.Found.TheVariants.{At}
 use Rattle.laws.proofs.Bools.{same?}
 use Rattle.laws.proofs.Cases.{not_both}
 use Rattle.laws.proofs.Search.{lowest_at}
@@ -26,7 +26,6 @@ use Rattle.ipc_rules.specs.declared.state.Channel.{Channel}
 use Rattle.ipc_rules.specs.declared.state.Table.{Table as Channels}
 use Rattle.ipc_rules.proofs.KeepsCalls.{registered_kept}
 use Rattle.ipc_rules.proofs.KeepsCreate.{create_kept}
-use Rattle.joined.specs.declared.answers.GiveAnswer.TheVariants.{Given}
 use Rattle.dispatcher_rules.specs.State.{variant_in, row_of, job_at, open_job, with_job}
 use Rattle.dispatcher_rules.specs.Bound.{same_tag}
 use Rattle.dispatcher_rules.specs.Open.{variant_of, free_place, send_given, both_given, open_job_of}
@@ -45,7 +44,7 @@ use Rattle.isolation.proofs.Places.{other_job, new_job, places_kept, bound_still
 use Rattle.isolation.proofs.Slots.{given_there, stands_there, stands_still, stood}
 
 -- ---- in the rows: the send id in slot s of row x, then the receive id in slot q of row v
-module _ (rows : Rows) (shape : Shape rows) (ends : Channel) (x s v q : ℕ) (first : empty_slot_of rows x ≡ At s) where
+module _ (rows : Rows) (shape : Shape rows) (ends : Channel) (x s v q : ℕ) (first : empty_slot_of rows x ≡ Some s) where
   abbrev one : Rows
   one = with_slot rows x s (holding ends.send)
 
@@ -55,7 +54,7 @@ module _ (rows : Rows) (shape : Shape rows) (ends : Channel) (x s v q : ℕ) (fi
   one_shape : Shape one
   one_shape = shape_slot rows shape x s (holding ends.send) (empty_found rows x s first).row
 
-  module _ (second : empty_slot_of one v ≡ At q) where
+  module _ (second : empty_slot_of one v ≡ Some q) where
     both_shape : Shape both
     both_shape = shape_slot one one_shape v q (holding ends.recv) (empty_found one v q second).row
 
@@ -77,9 +76,9 @@ module _ (rows : Rows) (shape : Shape rows) (ends : Channel) (x s v q : ℕ) (fi
 
 -- ---- on the desk: u is the channel table with the job's channel, in mailbox k
 module _ (w : Desk) (κ : Kept w) (tag : Tag) (x s v q p k : ℕ) (ends : Channel) (u : Channels)
-    (first : empty_slot_of w.rows x ≡ At s)
-    (second : empty_slot_of (with_slot w.rows x s (holding ends.send)) (row_of w.dispatcher v) ≡ At q)
-    (variant : variant_of w.dispatcher tag ≡ At v) (place : free_place w.dispatcher ≡ At p) (σ : Sound u) (n : Adds w.channels ends k u) where
+    (first : empty_slot_of w.rows x ≡ Some s)
+    (second : empty_slot_of (with_slot w.rows x s (holding ends.send)) (row_of w.dispatcher v) ≡ Some q)
+    (variant : variant_of w.dispatcher tag ≡ Some v) (place : free_place w.dispatcher ≡ Some p) (σ : Sound u) (n : Adds w.channels ends k u) where
   abbrev d : Desk
   d =
       record {
@@ -235,16 +234,16 @@ module _ (w : Desk) (κ : Kept w) (tag : Tag) (x s v q p k : ℕ) (ends : Channe
 
 -- ---- the call
 -- what the two gives come to
-pub both_given_lem : (made : Channels) (rows : Rows) (ends : Channel) (x s v q : ℕ) → empty_slot_of rows x ≡ At s → empty_slot_of (send_given made rows ends x s).rows v ≡ At q →
-    (empty_slot_of (with_slot rows x s (holding ends.send)) v ≡ At q)
+pub both_given_lem : (made : Channels) (rows : Rows) (ends : Channel) (x s v q : ℕ) → empty_slot_of rows x ≡ Some s → empty_slot_of (send_given made rows ends x s).rows v ≡ Some q →
+    (empty_slot_of (with_slot rows x s (holding ends.send)) v ≡ Some q)
     × (both_given made rows ends x s v q ≡ record {
-      answer = Given;
+      answer = Ok tt;
       channels = registered (registered made (holding ends.send)) (holding ends.recv);
       rows = with_slot (with_slot rows x s (holding ends.send)) v q (holding ends.recv);
     })
 both_given_lem made rows ends x s v q first second =
     let e = given_there made rows x s ends.send first in
-    let f : empty_slot_of (with_slot rows x s (holding ends.send)) v ≡ At q = rw e at second in
+    let f : empty_slot_of (with_slot rows x s (holding ends.send)) v ≡ Some q = rw e at second in
     (f, rw e (given_there _ _ v q ends.recv f))
 
 pub open_keeps : (w : Desk) → Kept w → (tag : Tag) (x : ℕ) → Kept (opened (open_job_of w.dispatcher w.rows w.channels tag x))

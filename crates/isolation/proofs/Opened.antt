@@ -1,4 +1,5 @@
 -- Every job that is open has its opening in the run: what that opening left, and that no later call closed its place. Assumes nothing.
+use Rattle.std.specs.Prelude.{Ok}
 use mathlib.Core.Path.{◌≡◌, refl, sym, ap, subst, ◌∙◌}
 use mathlib.Core.Bool.{true, false}
 use mathlib.Core.List.{List, [], ◌∷◌, ◌++◌, append-nil, append_assoc}
@@ -31,7 +32,6 @@ use Rattle.dispatcher_rules.specs.declared.state.Job.{Job}
 use Rattle.dispatcher_rules.specs.declared.state.Tag.{Tag}
 use Rattle.dispatcher_rules.specs.declared.answers.JobOpening.{JobOpening}
 use Rattle.dispatcher_rules.specs.declared.answers.JobClosing.{JobClosing}
-use Rattle.dispatcher_rules.specs.declared.answers.OpenAnswer.TheVariants.{Opened}
 use Rattle.dispatcher_rules.specs.declared.answers.OpenedJob.{OpenedJob}
 use Rattle.dispatcher_rules.specs.declared.answers.SlotSending.{SlotSending}
 use Rattle.dispatcher_rules.specs.declared.answers.SlotReceiving.{SlotReceiving}
@@ -53,7 +53,7 @@ use Rattle.isolation.proofs.Slots.{still_standing}
 pub record Took (w : Desk) (tag : Tag) (x p : ℕ) : Type 0 where
   pub send : CapId
   pub recv : CapId
-  pub answer : (opening w tag x).answer ≡ Opened (record { place = p; send = send; recv = recv })
+  pub answer : (opening w tag x).answer ≡ Ok (record { place = p; send = send; recv = recv })
 
 -- what became of place p, in which a job is open after the call: it was opened by it, or it is as it was and the call does not close it
 pub data Since (w : Desk) (p : ℕ) : JobCall → Type 0 where
@@ -68,7 +68,7 @@ module _ (w : Desk) (κ : Kept w) (p : ℕ) where
       (λ v i ends s q f o. ⊎_elim (λ e. inl (ends, (rw e))) (λ n. inr (sym (ap (λ (j : Job). j.«open») (other_job w.dispatcher i (open_job ends tag) p n)) ∙ o)) (same? p i)))
     where
       Says : JobOpening → Type 0
-      Says o = (job_at o.dispatcher p).«open» ≡ true → ((ends : Channel) × (o.answer ≡ Opened (record { place = p; send = ends.send; recv = ends.recv }))) ⊎ OpenIn w p
+      Says o = (job_at o.dispatcher p).«open» ≡ true → ((ends : Channel) × (o.answer ≡ Ok (record { place = p; send = ends.send; recv = ends.recv }))) ⊎ OpenIn w p
 
       by : (o : JobOpening) → opening w tag x ≡ o → Says o → OpenIn (opened (opening w tag x)) p → Since w p (open_for tag x)
       by o e h a = ⊎_elim (λ y. by_it (record { send = y.0.send; recv = y.0.recv; answer = ap (λ (z : JobOpening). z.answer) e ∙ y.1 }))
@@ -131,7 +131,7 @@ module _ (w : Desk) (κ : Kept w) (tag : Tag) (x p : ℕ) (a b : CapId) where
   new = record { place = p; send = a; recv = b }
 
   Says : JobOpening → Type 0
-  Says o = o.answer ≡ Opened new → Begins tag x p (record { send = a; recv = b }) (opened o)
+  Says o = o.answer ≡ Ok new → Begins tag x p (record { send = a; recv = b }) (opened o)
 
   begins_so : Says (open_job_of w.dispatcher w.rows w.channels tag x)
   unfolding Says
@@ -147,7 +147,7 @@ module _ (w : Desk) (κ : Kept w) (tag : Tag) (x p : ℕ) (a b : CapId) where
       let these : ends ≡ record { send = a; recv = b } = ap (λ (y : OpenedJob). let e : Channel = record { send = y.send; recv = y.recv } in e) same in
       rw (g.1, ← here, ← these) (record { job = new_job w.dispatcher i (open_job ends tag) κ.places l; box = n.box; opens = n.is.channel.sends; empty = n.is.queue; slot = s; sender = send_there w.rows κ.shape ends x s (row_of w.dispatcher v) q f.first g.0 }))
 
-  pub begins : (opening w tag x).answer ≡ Opened new → Begins tag x p (record { send = a; recv = b }) (after w (open_for tag x))
+  pub begins : (opening w tag x).answer ≡ Ok new → Begins tag x p (record { send = a; recv = b }) (after w (open_for tag x))
   unfolding after Says
   begins e = rw (serves w.dispatcher w.channels κ.ready) (begins_so (rw (serves w.dispatcher w.channels κ.ready) at e))
 

@@ -1,4 +1,5 @@
 -- Whatever dispatcher calls reach from fresh tables is kept. Assumes nothing.
+use Rattle.std.specs.Prelude.{Ok}
 use mathlib.Core.Path.{◌≡◌, refl}
 use mathlib.Core.Bool.{true, false}
 use mathlib.Core.List.{List, [], ◌∷◌}
@@ -18,7 +19,6 @@ use Rattle.dispatcher_rules.specs.Border.{Ready, guarded_by}
 use Rattle.dispatcher_rules.specs.declared.state.Desk.{Desk}
 use Rattle.dispatcher_rules.specs.declared.state.Dispatcher.{Dispatcher}
 use Rattle.dispatcher_rules.specs.declared.answers.Making.{Making}
-use Rattle.dispatcher_rules.specs.declared.answers.MakeAnswer.TheVariants.{Made}
 use Rattle.dispatcher_rules.specs.declared.state.Variant.{Variant}
 use Rattle.dispatcher_rules.proofs.Promises.{made_bound, made_closed, ready_passes}
 use Rattle.isolation.specs.Runs.{JobCall, open_for, close, send, receive, park, after, run, start, Reached, fresh, then}
@@ -50,7 +50,7 @@ sixteen : (n : ℕ) (vs : List Variant) → length (make_of n vs).dispatcher.job
 unfolding make_of
 sixteen n vs = all_pick (λ (m : Making). length m.dispatcher.jobs ≡ 16) _ _ _ (λ _. refl) (λ _. refl)
 
-pub start_kept : (z : Sizes) → in_range z ≡ true → (n : ℕ) (vs : List Variant) → (make_of n vs).answer ≡ Made → Kept (start z n vs)
+pub start_kept : (z : Sizes) → in_range z ≡ true → (n : ℕ) (vs : List Variant) → (make_of n vs).answer ≡ Ok tt → Kept (start z n vs)
 start_kept z i n vs e =
     let b = made_bound n vs e in
     record {

@@ -1,4 +1,5 @@
 -- Slots and the ids in them: what a test, a search, an install and a forgetting say of what each slot holds. Assumes nothing.
+use Rattle.std.specs.Prelude.{Some, Ok, Result}
 use mathlib.Core.Path.{◌≡◌, refl, sym, ap, ◌∙◌}
 use mathlib.Core.Bool.{Bool, true, false, ◌||◌}
 use mathlib.Core.Logic.{◌⊎◌, inl, inr, ⊎_elim}
@@ -6,14 +7,11 @@ use Prim.Native.Nat.{ℕ}
 use native.Mathlib.Omega.{arith}
 use borrow.Author.Tests.{eqb-true, eq-eqb, ne_eqb}
 use Rattle.laws.specs.Pick.{pick}
-use Rattle.laws.specs.declared.Found.TheVariants.{At}
 use Rattle.laws.proofs.Bools.{same?}
 use Rattle.laws.proofs.Cases.{all_pick, not_both}
 use Rattle.cap.specs.Slot.{holding, from_slot}
 use Rattle.cap.specs.declared.CapId.{CapId}
 use Rattle.cap.specs.declared.slot.Slot.{Slot}
-use Rattle.cap.specs.declared.slot.SlotAnswer.{SlotAnswer}
-use Rattle.cap.specs.declared.slot.SlotAnswer.TheVariants.{Names}
 use Rattle.capslots.specs.Table.{slot_in, with_slot, Shape}
 use Rattle.capslots.specs.Rows.{names_id, get_of, empty_slot_of, forget_in, forgotten_of}
 use Rattle.capslots.specs.declared.Table.{Table as Rows}
@@ -23,7 +21,7 @@ use Rattle.capslots.proofs.Places.{new_slot, other_slot}
 use Rattle.ipc_rules.specs.Holds.{registered}
 use Rattle.ipc_rules.specs.declared.state.Table.{Table as Channels}
 use Rattle.joined.specs.Steps.{give_of, installs}
-use Rattle.joined.specs.declared.answers.GiveAnswer.TheVariants.{Given}
+use Rattle.cap.specs.declared.slot.SlotError.{SlotError}
 
 -- ---- the test
 pub names_itself : (c : CapId) → names_id c (holding c) ≡ true
@@ -49,7 +47,7 @@ pub never_vacant : {A : Type 0} {x : Slot} {c : CapId} → x.present ≡ false �
 never_vacant {x = x} v e = absurd (not_both x.present (ap (λ (y : Slot). y.present) e) v)
 
 -- ---- what a get names stands in the slot
-pub get_names : (rows : Rows) (r s : ℕ) (c : CapId) → get_of rows r s ≡ Names c → slot_in rows r s ≡ holding c
+pub get_names : (rows : Rows) (r s : ℕ) (c : CapId) → get_of rows r s ≡ Ok c → slot_in rows r s ≡ holding c
 unfolding get_of from_slot
 get_names rows r s c =
     all_pick Says _ _ _ (λ _ e. let z : ◌≡◌ {A = ℕ} 0 1 = cc in absurd (omega arith))
@@ -57,19 +55,19 @@ get_names rows r s c =
     (λ _ e. let z : ◌≡◌ {A = ℕ} 0 1 = cc in absurd (omega arith)))
     (λ _ e. let z : ◌≡◌ {A = ℕ} 0 1 = cc in absurd (omega arith)))
   where
-    Says : SlotAnswer → Type 0
-    Says a = a ≡ Names c → slot_in rows r s ≡ holding c
+    Says : Result CapId SlotError → Type 0
+    Says a = a ≡ Ok c → slot_in rows r s ≡ holding c
 
-    both : (x : Slot) → x.present ≡ true → Names x.id ≡ Names c → x ≡ holding c
+    both : (x : Slot) → x.present ≡ true → ◌≡◌ {A = Result CapId SlotError} (Ok x.id) (Ok c) → x ≡ holding c
     both x p e = let i : x.id ≡ c = cc in rw (← i, ← p)
 
 -- ---- an id given to the slot that was found empty
-pub given_there : (t : Channels) (rows : Rows) (r s : ℕ) (c : CapId) → empty_slot_of rows r ≡ At s →
-    give_of t rows r s c ≡ record { answer = Given; channels = registered t (holding c); rows = with_slot rows r s (holding c) }
+pub given_there : (t : Channels) (rows : Rows) (r s : ℕ) (c : CapId) → empty_slot_of rows r ≡ Some s →
+    give_of t rows r s c ≡ record { answer = Ok tt; channels = registered t (holding c); rows = with_slot rows r s (holding c) }
 unfolding give_of installs
 given_there t rows r s c e = rw (installs_there rows r s c e)
 
-module _ (rows : Rows) (shape : Shape rows) (r s : ℕ) (e : empty_slot_of rows r ≡ At s) (c : CapId) where
+module _ (rows : Rows) (shape : Shape rows) (r s : ℕ) (e : empty_slot_of rows r ≡ Some s) (c : CapId) where
   -- it stands there
   pub stands_there : slot_in (with_slot rows r s (holding c)) r s ≡ holding c
   stands_there = let f = empty_found rows r s e in new_slot rows shape r s (holding c) f.row f.slot

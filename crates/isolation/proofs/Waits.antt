@@ -1,4 +1,5 @@
 -- What ends a wait for a job, and that nothing else does. Assumes nothing.
+use Rattle.std.specs.Prelude.{Err, None, Ok, Result}
 use mathlib.Core.Path.{◌≡◌, refl, sym, ap, ◌∙◌}
 use mathlib.Core.Bool.{true, false}
 use mathlib.Core.List.{List, [], ◌∷◌}
@@ -26,9 +27,7 @@ use Rattle.ipc_rules.specs.declared.state.Payload.{Payload}
 use Rattle.ipc_rules.specs.declared.state.TaskId.{TaskId}
 use Rattle.ipc_rules.specs.declared.state.Waiter.{Waiter}
 use Rattle.ipc_rules.specs.declared.state.Table.{Table as Channels}
-use Rattle.ipc_rules.specs.declared.answers.ParkAnswer.TheVariants.{Parked}
-use Rattle.ipc_rules.specs.declared.answers.SendAnswer as sending
-use Rattle.ipc_rules.specs.declared.answers.SendAnswer.TheVariants.{Sent}
+use Rattle.ipc_rules.specs.declared.answers.SendError.TheVariants as sending
 use Rattle.ipc_rules.proofs.AfterSend.{SendWays, bad_row, bad_cap, full, sent, send_ways}
 use Rattle.ipc_rules.proofs.AfterReceive as recv
 use Rattle.ipc_rules.proofs.AfterPark as park
@@ -44,12 +43,10 @@ use Rattle.dispatcher_rules.specs.declared.state.Desk.{Desk}
 use Rattle.dispatcher_rules.specs.declared.state.Tag.{Tag}
 use Rattle.dispatcher_rules.specs.declared.answers.JobOpening.{JobOpening}
 use Rattle.dispatcher_rules.specs.declared.answers.JobClosing.{JobClosing}
-use Rattle.dispatcher_rules.specs.declared.answers.CloseAnswer.TheVariants.{Closed}
 use Rattle.dispatcher_rules.specs.declared.answers.SlotSending.{SlotSending}
-use Rattle.dispatcher_rules.specs.declared.answers.SlotSendAnswer as toSend
+use Rattle.dispatcher_rules.specs.declared.answers.BySlotError.TheVariants as toSend
 use Rattle.dispatcher_rules.specs.declared.answers.SlotReceiving.{SlotReceiving}
 use Rattle.dispatcher_rules.specs.declared.answers.SlotParking.{SlotParking}
-use Rattle.dispatcher_rules.specs.declared.answers.SlotParkAnswer as toPark
 use Rattle.dispatcher_rules.proofs.Ways.{open_ways, close_ways, all_slotted}
 use Rattle.isolation.specs.Runs.{JobCall, open_for, close, send, receive, park, after, run, Reached, then}
 use Rattle.isolation.specs.Jobs.{job_in, OpenIn, BoundTo, slot_holds, if_accepted, accepted, closes}
@@ -64,6 +61,8 @@ use Rattle.isolation.proofs.KeptOpen.{both_given_lem}
 use Rattle.isolation.proofs.Reaches.{serves, all_kept}
 use Rattle.isolation.proofs.Slots.{get_names}
 use Rattle.isolation.proofs.Whose.{holds_send, receives_for}
+use Rattle.ipc_rules.specs.declared.answers.SendError.{SendError}
+use Rattle.dispatcher_rules.specs.declared.answers.BySlotError.{BySlotError}
 
 none_one : {A : Type 0} {m : Message} → m ∷ [] ≡ [] → A
 none_one e = let z = ap (length {A = Message}) e in absurd (omega arith)
@@ -126,40 +125,40 @@ module _ (w : Desk) (κ : Kept w) (p k : ℕ) (mine : OpenIn w p) (opens : openi
             (λ n. (y.rest.others k (λ i. n (sym i))).waiter) (same? j k)
 
     -- a sending: it names who waits where it is accepted for the job, and leaves him where it is not
-    data Sending (m : Message) (into : List Message) (a : toSend.SlotSendAnswer) (u : Channels) : Type 0 where
-      for_it : into ≡ m ∷ [] → a ≡ toSend.TheVariants.Answered (Sent (waiter_of t k)) → waiter_of u k ≡ nobody → Sending m into a u
+    data Sending (m : Message) (into : List Message) (a : Result (Result Waiter SendError) BySlotError) (u : Channels) : Type 0 where
+      for_it : into ≡ m ∷ [] → a ≡ Ok (Ok (waiter_of t k)) → waiter_of u k ≡ nobody → Sending m into a u
       not_for_it : into ≡ [] → waiter_of u k ≡ waiter_of t k → Sending m into a u
 
     module _ (y : Payload) where
       abbrev m : Message
       m = stamped y r
 
-      into : toSend.SlotSendAnswer → List Message
+      into : Result (Result Waiter SendError) BySlotError → List Message
       into a = pick (slot_holds w r s (job_in w p).ends.send) (if_accepted a m) []
 
-      nothing : (a : toSend.SlotSendAnswer) → if_accepted a m ≡ [] → into a ≡ []
+      nothing : (a : Result (Result Waiter SendError) BySlotError) → if_accepted a m ≡ [] → into a ≡ []
       unfolding into
       nothing a e = rw (e, pick_same (slot_holds w r s (job_in w p).ends.send))
 
       sent_by : (c : CapId) → slot_in w.rows r s ≡ holding c → SendWays t c y r (send_of t c y r) →
-          let a = toSend.TheVariants.Answered (send_of t c y r).answer in Sending m (into a) a (send_of t c y r).table
+          let a = Ok (send_of t c y r).answer in Sending m (into a) a (send_of t c y r).table
       unfolding into if_accepted if_sent pick
-      sent_by c h (bad_row _ q) = rw q (not_for_it (nothing (toSend.TheVariants.Answered sending.TheVariants.BadRow) refl) refl)
-      sent_by c h (bad_cap _ _ q) = rw q (not_for_it (nothing (toSend.TheVariants.Answered sending.TheVariants.BadCap) refl) ((authority_only t).mailboxes k).waiter)
-      sent_by c h (full _ _ _ _ q) = rw q (not_for_it (nothing (toSend.TheVariants.Answered sending.TheVariants.Full) refl) ((full_only t).mailboxes k).waiter)
+      sent_by c h (bad_row _ q) = rw q (not_for_it (nothing (Ok (Err sending.BadRow)) refl) refl)
+      sent_by c h (bad_cap _ _ q) = rw q (not_for_it (nothing (Ok (Err sending.BadCap)) refl) ((authority_only t).mailboxes k).waiter)
+      sent_by c h (full _ _ _ _ q) = rw q (not_for_it (nothing (Ok (Err sending.Full)) refl) ((full_only t).mailboxes k).waiter)
       sent_by c h (sent _ a x) =
           let b = holds_send w κ r s c h a.box p k mine opens a.opens in
           let e = x.answer in
           let z = x.waiter in
           ⊎_elim
-          (λ i. for_it (rw (e, b, eq-eqb a.box k i)) (rw e (ap (λ (j : ℕ). toSend.TheVariants.Answered (Sent (waiter_of t j))) i)) (rw i at z))
+          (λ i. for_it (rw (e, b, eq-eqb a.box k i)) (rw e (ap (λ (j : ℕ). Ok (Ok (waiter_of t j))) i)) (rw i at z))
           (λ n. not_for_it (rw (e, b, ne_eqb a.box k n)) (x.rest.others k (λ i. n (sym i))).waiter) (same? a.box k)
 
       send_does : let o = slot_send_of w.dispatcher w.rows t r s y in Sending m (into o.answer) o.answer o.channels
       unfolding slot_send_of if_accepted
       send_does =
           all_slotted (λ (o : SlotSending). Sending m (into o.answer) o.answer o.channels) _ _ _ _
-          (λ i n _. not_for_it (nothing (toSend.TheVariants.OutOfRange i n) refl) refl) (λ i _. not_for_it (nothing (toSend.TheVariants.Vacant i) refl) refl)
+          (λ i n _. not_for_it (nothing (Err (toSend.OutOfRange i n)) refl) refl) (λ i _. not_for_it (nothing (Err (toSend.Vacant i)) refl) refl)
           (λ c e. sent_by c (get_names w.rows r s c e) (send_ways t c y r κ.ready.sound))
 
 -- ---- every call
@@ -174,7 +173,7 @@ module _ (w : Desk) (ρ : Reached w) (p k : ℕ) (x : TaskId) (y : Waits w p k x
   waiter_stays (send r s z) e a =
       rw (serves w.dispatcher w.channels κ.ready) (by (send_does w κ p k y.job_open y.opens r s z) (rw (serves w.dispatcher w.channels κ.ready) at a))
     where
-      by : {l : List Message} {b : toSend.SlotSendAnswer} {u : Channels} → Sending w κ p k y.job_open y.opens r s (stamped z r) l b u → l ≡ [] → waiter_of u k ≡ waiter_of w.channels k
+      by : {l : List Message} {b : Result (Result Waiter SendError) BySlotError} {u : Channels} → Sending w κ p k y.job_open y.opens r s (stamped z r) l b u → l ≡ [] → waiter_of u k ≡ waiter_of w.channels k
       by (for_it i _ _) n = none_one (sym i ∙ n)
       by (not_for_it _ q) n = q
   waiter_stays (receive r s) e a = rw (serves w.dispatcher w.channels κ.ready) (receive_same w κ p k y.job_open y.opens r s)
@@ -192,12 +191,12 @@ module _ (w : Desk) (ρ : Reached w) (p k : ℕ) (x : TaskId) (y : Waits w p k x
   sent_ends : (r s : ℕ) (z : Payload) (n : Message) → accepted w p (send r s z) ≡ n ∷ [] → Ended (send r s z)
   unfolding after accepted into Ended
   sent_ends r s z n e =
-      let σ = serves w.dispatcher w.channels κ.ready (slot_sent toSend.TheVariants.BadTable w.dispatcher w.rows w.channels) (slot_send_of w.dispatcher w.rows w.channels r s z) in
+      let σ = serves w.dispatcher w.channels κ.ready (slot_sent (Err toSend.BadTable) w.dispatcher w.rows w.channels) (slot_send_of w.dispatcher w.rows w.channels r s z) in
       by σ (send_does w κ p k y.job_open y.opens r s z) (rw (serves w.dispatcher w.channels κ.ready) at e)
     where
       by : {o : SlotSending} {l : List Message} → slot_send_call w.dispatcher w.rows w.channels r s z ≡ o → Sending w κ p k y.job_open y.opens r s (stamped z r) l o.answer o.channels → l ≡ n ∷ [] → Ended (send r s z)
       by σ (for_it _ a q) _ =
-          (by_sending (ap (λ (o : SlotSending). o.answer) σ ∙ a ∙ ap (λ (a : Waiter). toSend.TheVariants.Answered (Sent a)) y.waiter), ap (λ (o : SlotSending). waiter_of o.channels k) σ ∙ q)
+          (by_sending (ap (λ (o : SlotSending). o.answer) σ ∙ a ∙ ap (λ (a : Waiter). Ok (Ok a)) y.waiter), ap (λ (o : SlotSending). waiter_of o.channels k) σ ∙ q)
       by σ (not_for_it i _) g = none_one (sym g ∙ i)
 
   closed_ends : (i : ℕ) → i ≡ p → Ended (close i)
@@ -206,7 +205,7 @@ module _ (w : Desk) (ρ : Reached w) (p k : ℕ) (x : TaskId) (y : Waits w p k x
       let m = κ.own p y.job_open in
       let c = closing_ends w ρ p y.job_open m in
       let b : m.box ≡ k = one_box w.channels _ _ send_right m.box k refl m.channel.sends y.opens in
-      rw e (by_closing (c.answers ∙ ap Closed (ap (waiter_of w.channels) b ∙ y.waiter)), ap (waiter_of (after w (close p)).channels) (sym b) ∙ c.nobody_waits)
+      rw e (by_closing (c.answers ∙ ap Ok (ap (waiter_of w.channels) b ∙ y.waiter)), ap (waiter_of (after w (close p)).channels) (sym b) ∙ c.nobody_waits)
 
   ends : (c : JobCall) → (closes p c ≡ true) ⊎ ((m : Message) × (accepted w p c ≡ m ∷ [])) → Ended c
   unfolding closes accepted
@@ -233,10 +232,10 @@ module _ (w : Desk) (κ : Kept w) (r s : ℕ) (task : TaskId) where
     pub waits : waiter_of u (κ.own whose job_open).box ≡ waiting task
 
   Says : SlotParking → Type 0
-  Says o = o.answer ≡ toPark.TheVariants.Answered Parked → WaitsIn o.channels
+  Says o = o.answer ≡ Ok (Ok None) → WaitsIn o.channels
 
   waits_by : (c : CapId) → slot_in w.rows r s ≡ holding c → park.ParkWays w.channels c task (park_of w.channels c task) →
-      Says (slot_parked (toPark.TheVariants.Answered (park_of w.channels c task).answer) w.dispatcher w.rows (park_of w.channels c task).table)
+      Says (slot_parked (Ok (park_of w.channels c task).answer) w.dispatcher w.rows (park_of w.channels c task).table)
   unfolding Says
   waits_by c h (park.bad_cap _ q) e = absurd (omega (arith, ap slot_park_number (rw q at e)))
   waits_by c h (park.given _ _ _ a _) e = let z : ◌≡◌ {A = ℕ} 0 1 = cc in absurd (omega arith)

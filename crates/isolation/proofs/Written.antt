@@ -1,4 +1,5 @@
 -- Each message that is accepted for a job is stamped with the row in which the job's send id stands, `all_written`. Assumes nothing.
+use Rattle.std.specs.Prelude.{Err, Ok, Result}
 use mathlib.Core.Path.{◌≡◌, sym, ap, ◌∙◌}
 use mathlib.Core.Bool.{true}
 use mathlib.Core.List.Memᴰ
@@ -15,7 +16,7 @@ use Rattle.ipc_rules.specs.declared.state.Payload.{Payload}
 use Rattle.history.proofs.Stamps.{put}
 use Rattle.dispatcher_rules.specs.declared.state.Desk.{Desk}
 use Rattle.dispatcher_rules.specs.declared.state.Job.{Job}
-use Rattle.dispatcher_rules.specs.declared.answers.SlotSendAnswer as toSend
+use Rattle.dispatcher_rules.specs.declared.answers.BySlotError.TheVariants as toSend
 use Rattle.isolation.specs.Runs.{JobCall, open_for, close, send, receive, park, sending, after}
 use Rattle.isolation.specs.Jobs.{job_in, OpenIn, slot_holds, if_accepted, accepted, all_accepted, Spares, none, more}
 use Rattle.isolation.proofs.Flows.{call_flows}
@@ -23,14 +24,17 @@ use Rattle.isolation.proofs.Kept.{Kept}
 use Rattle.isolation.proofs.Opened.{slot_stays}
 use Rattle.isolation.proofs.Reaches.{after_kept}
 use Rattle.isolation.proofs.Slots.{names_holding}
+use Rattle.ipc_rules.specs.declared.state.Waiter.{Waiter}
+use Rattle.ipc_rules.specs.declared.answers.SendError.{SendError}
+use Rattle.dispatcher_rules.specs.declared.answers.BySlotError.{BySlotError}
 
 -- what was accepted is what the sending made
-accepted_is : (a : toSend.SlotSendAnswer) (x m : Message) → Memᴰ m (if_accepted a x) → m ≡ x
+accepted_is : (a : Result (Result Waiter SendError) BySlotError) (x m : Message) → Memᴰ m (if_accepted a x) → m ≡ x
 unfolding if_accepted pick
-accepted_is (toSend.TheVariants.Answered a) x m i = (put true a x m i).is
-accepted_is (toSend.TheVariants.OutOfRange _ _) x m i = absurd (Memᴰ.not-nil i)
-accepted_is (toSend.TheVariants.Vacant _) x m i = absurd (Memᴰ.not-nil i)
-accepted_is toSend.TheVariants.BadTable x m i = absurd (Memᴰ.not-nil i)
+accepted_is (Ok a) x m i = (put true a x m i).is
+accepted_is (Err (toSend.OutOfRange _ _)) x m i = absurd (Memᴰ.not-nil i)
+accepted_is (Err (toSend.Vacant _)) x m i = absurd (Memᴰ.not-nil i)
+accepted_is (Err toSend.BadTable) x m i = absurd (Memᴰ.not-nil i)
 
 -- the send id of the job in place p stands in row x
 module _ (w : Desk) (κ : Kept w) (p : ℕ) (mine : OpenIn w p) (x a : ℕ) (h : slot_in w.rows x a ≡ holding (job_in w p).ends.send) where

@@ -1,6 +1,6 @@
 -- Jobs in a run: the one that is open in a place, from its opening on; what is accepted for it and what is handed out from it, by call and by
 -- run.
-use Rattle.std.specs.Prelude.{◌≡◌, Bool, true, false, List, [], ◌∷◌, ◌++◌, ℕ, ◌<◌, eqb}
+use Rattle.std.specs.Prelude.{◌≡◌, Bool, true, false, List, [], ◌∷◌, ◌++◌, ℕ, ◌<◌, eqb, Err, Ok, Option, Result}
 use Rattle.laws.specs.Pick.{pick}
 use Rattle.cap.specs.Slot.{holding}
 use Rattle.cap.specs.declared.CapId.{CapId}
@@ -15,11 +15,13 @@ use Rattle.dispatcher_rules.specs.declared.state.Desk.{Desk}
 use Rattle.dispatcher_rules.specs.declared.state.Dispatcher.{Dispatcher}
 use Rattle.dispatcher_rules.specs.declared.state.Job.{Job}
 use Rattle.dispatcher_rules.specs.declared.state.Tag.{Tag}
-use Rattle.dispatcher_rules.specs.declared.answers.OpenAnswer.TheVariants.{Opened}
-use Rattle.dispatcher_rules.specs.declared.answers.SlotSendAnswer as toSend
-use Rattle.dispatcher_rules.specs.declared.answers.SlotRecvAnswer as toReceive
-use Rattle.dispatcher_rules.specs.declared.answers.SlotParkAnswer as toPark
+use Rattle.dispatcher_rules.specs.declared.answers.BySlotError.TheVariants as by_slot_error
 use Rattle.isolation.specs.Runs.{JobCall, open_for, close, send, receive, park, opening, sending, receiving, parking, after, run}
+use Rattle.ipc_rules.specs.declared.state.Waiter.{Waiter}
+use Rattle.ipc_rules.specs.declared.answers.SendError.{SendError}
+use Rattle.dispatcher_rules.specs.declared.answers.BySlotError.{BySlotError}
+use Rattle.ipc_rules.specs.declared.answers.RecvError.{RecvError}
+use Rattle.ipc_rules.specs.declared.answers.ParkError.{ParkError}
 
 -- ---- places and rows
 abbrev pub job_in : Desk → ℕ → Job
@@ -42,25 +44,25 @@ slot_holds w r s c = names_id c (slot_in w.rows r s)
 
 -- ---- by answer
 -- m, where its sending was accepted
-unfoldable pub if_accepted : toSend.SlotSendAnswer → Message → List Message
-if_accepted (toSend.TheVariants.Answered a) m = if_sent a m
-if_accepted (toSend.TheVariants.OutOfRange s n) m = []
-if_accepted (toSend.TheVariants.Vacant s) m = []
-if_accepted toSend.TheVariants.BadTable m = []
+unfoldable pub if_accepted : Result (Result Waiter SendError) BySlotError → Message → List Message
+if_accepted (Ok a) m = if_sent a m
+if_accepted (Err (by_slot_error.OutOfRange s n)) m = []
+if_accepted (Err (by_slot_error.Vacant s)) m = []
+if_accepted (Err by_slot_error.BadTable) m = []
 
 -- what a receiving hands out
-unfoldable pub if_received : toReceive.SlotRecvAnswer → List Message
-if_received (toReceive.TheVariants.Answered a) = by_receive a
-if_received (toReceive.TheVariants.OutOfRange s n) = []
-if_received (toReceive.TheVariants.Vacant s) = []
-if_received toReceive.TheVariants.BadTable = []
+unfoldable pub if_received : Result (Result Message RecvError) BySlotError → List Message
+if_received (Ok a) = by_receive a
+if_received (Err (by_slot_error.OutOfRange s n)) = []
+if_received (Err (by_slot_error.Vacant s)) = []
+if_received (Err by_slot_error.BadTable) = []
 
 -- what a parking hands out
-unfoldable pub if_given : toPark.SlotParkAnswer → List Message
-if_given (toPark.TheVariants.Answered a) = by_park a
-if_given (toPark.TheVariants.OutOfRange s n) = []
-if_given (toPark.TheVariants.Vacant s) = []
-if_given toPark.TheVariants.BadTable = []
+unfoldable pub if_given : Result (Result (Option Message) ParkError) BySlotError → List Message
+if_given (Ok a) = by_park a
+if_given (Err (by_slot_error.OutOfRange s n)) = []
+if_given (Err (by_slot_error.Vacant s)) = []
+if_given (Err by_slot_error.BadTable) = []
 
 -- ---- by call, for the job in place p
 -- the messages, one or none, that the call has accepted for it: it sends by a slot that holds the job's send id, and what was handed in is
@@ -121,7 +123,7 @@ pub record JobOf (w : Desk) (cs : List JobCall) (p : ℕ) : Type 0 where
   pub split : cs ≡ earlier ++ (open_for tag extractor ∷ later)
   pub send : CapId
   pub recv : CapId
-  pub opened : (opening (run w earlier) tag extractor).answer ≡ Opened (record { place = p; send = send; recv = recv })
+  pub opened : (opening (run w earlier) tag extractor).answer ≡ Ok (record { place = p; send = send; recv = recv })
   pub unclosed : Spares p later
   -- so it stands there still, and its send id in a slot of the extractor's row
   pub stands : job_in (run w cs) p ≡ open_job (record { send = send; recv = recv }) tag

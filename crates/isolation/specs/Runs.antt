@@ -1,6 +1,6 @@
 -- Request No. 5: "From fresh tables and with dispatcher calls only". The calls with their operands, what each leaves by the contracts of
 -- `dispatcher`, and what sequences of them reach.
-use Rattle.std.specs.Prelude.{◌≡◌, true, List, [], ◌∷◌, ℕ}
+use Rattle.std.specs.Prelude.{◌≡◌, true, List, [], ◌∷◌, ℕ, Ok}
 use Rattle.capslots.specs.Table.{fresh_table}
 use Rattle.ipc_rules.specs.Make.{fresh_of, in_range}
 use Rattle.ipc_rules.specs.declared.state.Payload.{Payload}
@@ -16,7 +16,6 @@ use Rattle.dispatcher_rules.specs.declared.answers.JobClosing.{JobClosing}
 use Rattle.dispatcher_rules.specs.declared.answers.SlotSending.{SlotSending}
 use Rattle.dispatcher_rules.specs.declared.answers.SlotReceiving.{SlotReceiving}
 use Rattle.dispatcher_rules.specs.declared.answers.SlotParking.{SlotParking}
-use Rattle.dispatcher_rules.specs.declared.answers.MakeAnswer.TheVariants.{Made}
 
 -- every call but making, with any operands: the tag and the extractor's row; the place; row, slot and what is handed in or who parks. A
 -- sending's row is the one that its message is stamped with (request No. 10)
@@ -77,9 +76,9 @@ start z n vs = record { dispatcher = (make_of n vs).dispatcher; rows = fresh_tab
 
 -- what holds of any sequence of dispatcher calls from there
 abbrev pub FromFresh : (Desk → List JobCall → Type 0) → Type 0
-FromFresh Holds = (z : Sizes) → in_range z ≡ true → (n : ℕ) (vs : List Variant) → (make_of n vs).answer ≡ Made → (cs : List JobCall) → Holds (start z n vs) cs
+FromFresh Holds = (z : Sizes) → in_range z ≡ true → (n : ℕ) (vs : List Variant) → (make_of n vs).answer ≡ Ok tt → (cs : List JobCall) → Holds (start z n vs) cs
 
 -- what such a sequence reaches
 pub data Reached : Desk → Type 0 where
-  fresh : (z : Sizes) → in_range z ≡ true → (n : ℕ) (vs : List Variant) → (make_of n vs).answer ≡ Made → Reached (start z n vs)
+  fresh : (z : Sizes) → in_range z ≡ true → (n : ℕ) (vs : List Variant) → (make_of n vs).answer ≡ Ok tt → Reached (start z n vs)
   then : {w : Desk} → Reached w → (c : JobCall) → Reached (after w c)

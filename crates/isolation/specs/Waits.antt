@@ -1,6 +1,6 @@
 -- Demand 3, "A parked task is named by the first later accepted send on its channel, its revocation, .. Nothing else ends the wait", read of
 -- dispatcher calls: what ends a wait for a job is a sending that is accepted for it, or the closing of its place.
-use Rattle.std.specs.Prelude.{◌≡◌, true, false, List, [], ◌∷◌, ◌⊎◌, ℕ}
+use Rattle.std.specs.Prelude.{◌≡◌, true, false, List, [], ◌∷◌, ◌⊎◌, ℕ, None, Ok}
 use Rattle.cap.specs.Rights.{send_right}
 use Rattle.ipc_rules.specs.State.{nobody, waiting}
 use Rattle.ipc_rules.specs.Opening.{opening_of}
@@ -9,12 +9,7 @@ use Rattle.ipc_rules.specs.declared.opening.Opening.TheVariants.{Opens}
 use Rattle.ipc_rules.specs.declared.state.Message.{Message}
 use Rattle.ipc_rules.specs.declared.state.Payload.{Payload}
 use Rattle.ipc_rules.specs.declared.state.TaskId.{TaskId}
-use Rattle.ipc_rules.specs.declared.answers.ParkAnswer.TheVariants.{Parked}
-use Rattle.ipc_rules.specs.declared.answers.SendAnswer.TheVariants.{Sent}
 use Rattle.dispatcher_rules.specs.declared.state.Desk.{Desk}
-use Rattle.dispatcher_rules.specs.declared.answers.CloseAnswer.TheVariants.{Closed}
-use Rattle.dispatcher_rules.specs.declared.answers.SlotParkAnswer.TheVariants as toPark
-use Rattle.dispatcher_rules.specs.declared.answers.SlotSendAnswer.TheVariants.{Answered}
 use Rattle.isolation.specs.Runs.{JobCall, close, send, park, closing, sending, parking, after, run, Reached}
 use Rattle.isolation.specs.Jobs.{job_in, OpenIn, BoundTo, accepted, closes}
 
@@ -26,8 +21,8 @@ pub record Waits (w : Desk) (p k : ℕ) (x : TaskId) : Type 0 where
 
 -- the call answers x
 pub data Named (w : Desk) (x : TaskId) : JobCall → Type 0 where
-  by_sending : {r s : ℕ} {y : Payload} → (sending w r s y).answer ≡ Answered (Sent (waiting x)) → Named w x (send r s y)
-  by_closing : {p : ℕ} → (closing w p).answer ≡ Closed (waiting x) → Named w x (close p)
+  by_sending : {r s : ℕ} {y : Payload} → (sending w r s y).answer ≡ Ok (Ok (waiting x)) → Named w x (send r s y)
+  by_closing : {p : ℕ} → (closing w p).answer ≡ Ok (waiting x) → Named w x (close p)
 
 -- through every other call it waits on
 abbrev pub WaitsOn : Type 0
@@ -49,7 +44,7 @@ pub record WaitsFor (w : Desk) (r s : ℕ) (x : TaskId) : Type 0 where
   pub waits : Waits (after w (park r s x)) place box x
 
 abbrev pub ParkedWaits : Type 0
-ParkedWaits = (w : Desk) → Reached w → (r s : ℕ) (x : TaskId) → (parking w r s x).answer ≡ toPark.Answered Parked → WaitsFor w r s x
+ParkedWaits = (w : Desk) → Reached w → (r s : ℕ) (x : TaskId) → (parking w r s x).answer ≡ Ok (Ok None) → WaitsFor w r s x
 
 -- over a run: as long as no call closes the place and none has a message accepted for the job, it waits; so the first that does names it
 pub data Quiet : Desk → ℕ → List JobCall → Type 0 where

@@ -3,19 +3,20 @@ use crate::op;
 use dispatcher_rules::state::{Dispatcher, MAX_VARIANTS, NO_VARIANT, Tag, Variant};
 use edgescript::operands::{byte, rest, size};
 use edgescript::print;
+use shown::Answer;
+use std::array;
 
 // Five bytes.
 pub(crate) fn tag(w: &[u64]) -> Tag {
-    let bytes = [byte(w, 0), byte(w, 1), byte(w, 2), byte(w, 3), byte(w, 4)];
-    Tag { bytes }
+    Tag {
+        bytes: array::from_fn(|i| byte(w, i)),
+    }
 }
 
 // Its place; tag, row.
 fn set_variant(mut d: Dispatcher, w: &[u64]) -> Dispatcher {
-    let i = size(w, 0) % MAX_VARIANTS;
-    let tag = tag(rest(w, 1));
-    d.variants[i] = Variant {
-        tag,
+    d.variants[size(w, 0) % MAX_VARIANTS] = Variant {
+        tag: tag(rest(w, 1)),
         row: size(w, 6),
     };
     d
@@ -27,10 +28,8 @@ fn set_count(mut d: Dispatcher, w: &[u64]) -> Dispatcher {
 }
 
 fn make<P: Print>(to: &P, d: Dispatcher, w: &[u64]) -> Dispatcher {
-    let variants = d.variants;
-    let x = dispatcher::make(size(w, 0), variants);
-    let a = x.answer;
-    print::answer(to, a.shown());
+    let x = dispatcher::make(size(w, 0), d.variants);
+    print::answer(to, x.answer.shown());
     x.dispatcher
 }
 
@@ -44,6 +43,5 @@ pub(crate) fn call<P: Print>(to: &P, op: u8, d: Dispatcher, w: &[u64]) -> Dispat
 }
 
 pub(crate) fn fresh() -> Dispatcher {
-    let x = dispatcher::make(0, [NO_VARIANT; MAX_VARIANTS]);
-    x.dispatcher
+    dispatcher::make(0, [NO_VARIANT; MAX_VARIANTS]).dispatcher
 }

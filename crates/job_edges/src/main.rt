@@ -3,7 +3,7 @@
 // numbers of `op`. What is expected, in the file stdout, is written from request No. 5 and document 01.
 #![tactic(auto)]
 
-use edgescript::{operands, print, script};
+use edgescript::script;
 
 mod beside;
 mod binding;
@@ -11,18 +11,5 @@ mod jobs;
 mod op;
 
 fn main(rt: HostRuntime) {
-    let mut reader = rt.stdin();
-    let mut desk = jobs::fresh();
-    for _ in 0..script::MOST_CALLS {
-        let mut words = [0u64; script::ROOM];
-        let n = script::call(&mut reader, &rt, &mut words);
-        if n == 0 {
-            return;
-        }
-        let line = &words[..n];
-        let op = operands::byte(line, 0);
-        let w = operands::rest(line, 1);
-        desk = jobs::call(&rt, op, desk, w);
-        print::end(&rt);
-    }
+    script::play(&mut rt.stdin(), &rt, &mut jobs::fresh());
 }

@@ -1,19 +1,17 @@
--- A loop that fills a list from its start on: after i turns its first i elements are what f gives. Assumes nothing.
-use mathlib.Core.Path.{◌≡◌, refl, sym, ap, ◌∙◌}
+-- A list that has at each place what f gives for it. Assumes nothing.
+use mathlib.Core.Path.{◌≡◌, refl, sym, ◌∙◌}
 use mathlib.Core.List.{List}
-use Prim.Native.Nat.{ℕ, ◌+◌, ◌<◌, ◌≤◌}
-use native.Mathlib.Numerals.{add-one}
+use Prim.Native.Nat.{ℕ, zero, suc, ◌<◌, ◌≤◌}
 use native.Mathlib.Omega.{arith}
-use lib.ListN.{length, take, set}
-use lib.Seq.{take_all, take-suc-set}
+use lib.ListN.{get_or, length, take}
+use lib.Seq.{take_all, take-suc}
 use Rattle.jobscript.specs.Operands.{firsts}
 
-module _ {A : Type 0} (f : ℕ → A) (i : ℕ) (now : List A) where
-  pub firsts_turn : (x : A) → i < length now → take i now ≡ firsts f i → x ≡ f i → take (i + 1) (set now i x) ≡ firsts f (i + 1)
+module _ {A : Type 0} (f : ℕ → A) (l : List A) (d : A) where
+  front : (n : ℕ) → n ≤ length l → ((k : ℕ) → k < n → get_or l k d ≡ f k) → take n l ≡ firsts f n
   unfolding firsts
-  firsts_turn x l h e = rw add-one (take-suc-set now i x l ∙ rw (h, e) refl)
+  front zero b h = refl
+  front (suc n) b h = rw (take-suc l n d b, front n (omega arith) (λ k c. h k (omega arith)), h n (omega arith)) refl
 
-  pub firsts_done : (n : ℕ) → length now ≡ n → i ≤ n → n ≤ i → take i now ≡ firsts f i → now ≡ firsts f n
-  firsts_done n l a b h =
-      let e : i ≡ n = omega arith in
-      sym (take_all i now (omega arith)) ∙ h ∙ ap (firsts f) e
+  pub firsts_at : (n : ℕ) → length l ≡ n → ((k : ℕ) → k < n → get_or l k d ≡ f k) → l ≡ firsts f n
+  firsts_at n e h = sym (take_all n l (omega arith)) ∙ front n (omega arith) h

@@ -1,6 +1,6 @@
 pub mod Few
 pub mod Packs
-pub mod Matches
+pub mod Marks
 pub mod New
 pub mod Records
 pub mod Firsts

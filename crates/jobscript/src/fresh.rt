@@ -5,9 +5,8 @@ ghost use Rattle.jobscript.specs.Operations.{start_desk, new_done};
 
 use crate::Outcome;
 use crate::operands::{index_at, sizes, variants};
-use dispatcher_rules::answers::MakeAnswer;
 use dispatcher_rules::state::{Desk, MAX_VARIANTS, NO_VARIANT};
-use ipc_rules::answers::NewAnswer;
+use shown::Answer;
 
 // Before the first record: fresh tables of sizes 32, 64, 8, and nothing bound.
 pub fn start() -> Desk
@@ -31,7 +30,7 @@ pub fn op_new(desk: Desk, script: &[u8]) -> Outcome
     let z = sizes(script);
     let made = ipc_life::making::new(z.mailboxes, z.endpoints, z.depth);
     let sized = made.answer;
-    let NewAnswer::Made = sized else {
+    let Ok(()) = sized else {
         return Outcome {
             shown: sized.shown(),
             desk,
@@ -40,7 +39,7 @@ pub fn op_new(desk: Desk, script: &[u8]) -> Outcome
     let bound = dispatcher::make(index_at(script, 6), variants(script));
     let answer = bound.answer;
     let shown = answer.shown();
-    let MakeAnswer::Made = answer else {
+    let Ok(()) = answer else {
         return Outcome { shown, desk };
     };
     let dispatcher = bound.dispatcher;

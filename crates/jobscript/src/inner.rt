@@ -5,22 +5,24 @@ ghost use Rattle.jobscript.specs.Operations.{unknown_done, apply_of};
 ghost use Rattle.jobscript.specs.Step.{step_of};
 
 use crate::reading::read_record;
-use crate::{Outcome, StepAnswer, Stepped, fresh, jobs, looks, messages, op};
+use crate::{Outcome, StepError, Stepped, fresh, jobs, looks, messages, op};
 use dispatcher_rules::state::Desk;
 use laws::refusals;
 use logread::Read;
+use shown::Shown;
 
 // A number that is no operation's changes nothing.
 fn unknown(desk: Desk) -> Outcome
     ensures { result ≡ packed (unknown_done desk) }
 {
     Outcome {
-        shown: shown::none(refusals::BAD_OP),
+        shown: Shown::new(refusals::BAD_OP, &[]),
         desk,
     }
 }
 
 // The operation of this number, its operands in the record at the script's start.
+#[tactic(auto, unfolding(crate::specs::Operations::apply_of))]
 pub fn apply(op: u8, desk: Desk, script: &[u8]) -> Outcome
     requires { ReadyDesk desk }
     ensures { result ≡ packed (apply_of op script.now desk) }
@@ -49,7 +51,7 @@ pub fn step(script: &[u8], desk: Desk) -> Stepped
             let shown = done.shown;
             let after = done.desk;
             Stepped {
-                answer: StepAnswer::Took,
+                answer: Ok(()),
                 used: len,
                 op,
                 shown,
@@ -57,31 +59,31 @@ pub fn step(script: &[u8], desk: Desk) -> Stepped
             }
         }
         Read::Short => Stepped {
-            answer: StepAnswer::Short,
+            answer: Err(StepError::Short),
             used: 0,
             op: 0,
-            shown: shown::none(refusals::SHORT),
+            shown: Shown::new(refusals::SHORT, &[]),
             desk,
         },
         Read::BadMark => Stepped {
-            answer: StepAnswer::BadMark,
+            answer: Err(StepError::BadMark),
             used: 0,
             op: 0,
-            shown: shown::none(refusals::BAD_MARK),
+            shown: Shown::new(refusals::BAD_MARK, &[]),
             desk,
         },
         Read::BadOp => Stepped {
-            answer: StepAnswer::BadOp,
+            answer: Err(StepError::BadOp),
             used: 0,
             op: 0,
-            shown: shown::none(refusals::BAD_OP),
+            shown: Shown::new(refusals::BAD_OP, &[]),
             desk,
         },
         Read::BadOperand => Stepped {
-            answer: StepAnswer::BadOp,
+            answer: Err(StepError::BadOp),
             used: 0,
             op: 0,
-            shown: shown::none(refusals::BAD_OP),
+            shown: Shown::new(refusals::BAD_OP, &[]),
             desk,
         },
     }

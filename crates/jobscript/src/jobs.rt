@@ -6,6 +6,7 @@ ghost use Rattle.jobscript.specs.Operations.{open_done, close_done};
 use crate::Outcome;
 use crate::operands::{index_at, tag_at};
 use dispatcher_rules::state::Desk;
+use shown::Answer;
 
 // 1.
 pub fn op_open(mut desk: Desk, script: &[u8]) -> Outcome

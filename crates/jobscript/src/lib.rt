@@ -5,11 +5,11 @@
 #![tactic(auto)]
 
 ghost use Rattle.std.specs.Prelude.{◌≡◌};
-ghost use Rattle.jobscript.specs.Step.{step_number, step_call};
+ghost use Rattle.jobscript.specs.Step.{step_error_number, step_call};
 
 use dispatcher_rules::state::Desk;
 use laws::refusals;
-use shown::Shown;
+use shown::{Answer, Shown};
 
 mod fresh;
 pub mod inner;
@@ -32,28 +32,22 @@ pub struct Outcome {
 }
 
 // Whether a step took its record, or the fault that stopped it. `NoRoom` is for whoever writes lines.
-#[derive(Clone, Copy)]
-pub enum StepAnswer {
-    Took,
-    Short,
-    BadMark,
-    BadOp,
-    NoRoom,
-    BadTable,
+pub type StepAnswer = Result<(), StepError>;
+
+#[derive(Clone, Copy, PartialEq, Eq)]
+pub enum StepError {
+    Short = 24,
+    BadMark = 22,
+    BadOp = 23,
+    NoRoom = 26,
+    BadTable = 27,
 }
 
-impl StepAnswer {
-    pub fn number(self) -> u8
-        ensures { result ≡ step_number self }
-    {
-        match self {
-            StepAnswer::Took => refusals::NONE,
-            StepAnswer::Short => refusals::SHORT,
-            StepAnswer::BadMark => refusals::BAD_MARK,
-            StepAnswer::BadOp => refusals::BAD_OP,
-            StepAnswer::NoRoom => refusals::NO_ROOM,
-            StepAnswer::BadTable => refusals::BAD_TABLE,
-        }
+impl Answer for StepError {
+    ghost number_of = { step_error_number };
+
+    fn shown(self) -> Shown {
+        Shown::new(self as u8, &[])
     }
 }
 
@@ -73,10 +67,10 @@ pub fn step(script: &[u8], desk: Desk) -> Stepped
 {
     if !dispatcher::ready(desk.dispatcher, desk.channels) {
         return Stepped {
-            answer: StepAnswer::BadTable,
+            answer: Err(StepError::BadTable),
             used: 0,
             op: 0,
-            shown: shown::none(refusals::BAD_TABLE),
+            shown: Shown::new(refusals::BAD_TABLE, &[]),
             desk,
         };
     }

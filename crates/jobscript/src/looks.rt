@@ -7,8 +7,8 @@ use crate::Outcome;
 use crate::operands::index_at;
 use cap::ROWS;
 use dispatcher_rules::state::Desk;
-use ipc_rules::answers::RefusalsAnswer;
 use laws::refusals;
+use shown::{Answer, Shown};
 
 // 6.
 pub fn op_row(desk: Desk, script: &[u8]) -> Outcome
@@ -17,7 +17,7 @@ pub fn op_row(desk: Desk, script: &[u8]) -> Outcome
     let row = index_at(script, 3);
     if row >= ROWS {
         return Outcome {
-            shown: shown::none(refusals::BAD_ROW),
+            shown: Shown::new(refusals::BAD_ROW, &[]),
             desk,
         };
     }
@@ -35,9 +35,8 @@ pub fn op_counts(desk: Desk) -> Outcome
     ensures { result ≡ packed (counts_done desk) }
 {
     let counts = desk.channels.counters.refusals;
-    let answer = RefusalsAnswer::Counts(counts);
     Outcome {
-        shown: answer.shown(),
+        shown: counts.shown(),
         desk,
     }
 }

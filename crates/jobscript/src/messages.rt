@@ -5,7 +5,9 @@ ghost use Rattle.jobscript.specs.Operations.{send_done, receive_done, park_done}
 
 use crate::Outcome;
 use crate::operands::{index_at, payload, task};
+use dispatcher_rules::showing::slot_park_shown;
 use dispatcher_rules::state::Desk;
+use shown::Answer;
 
 // 3.
 pub fn op_send(mut desk: Desk, script: &[u8]) -> Outcome
@@ -74,7 +76,7 @@ pub fn op_park(mut desk: Desk, script: &[u8]) -> Outcome
     desk.rows = rows;
     desk.channels = channels;
     Outcome {
-        shown: answer.shown(),
+        shown: slot_park_shown(answer),
         desk,
     }
 }

@@ -3,9 +3,10 @@ ghost use Rattle.std.specs.Prelude.{◌≡◌, ◌<◌};
 ghost use Rattle.logread.specs.Little.{byte_at};
 ghost use Rattle.jobscript.specs.Operands.{sizes_at, tag_at, variant_at, variants_at, payload_at, task_at};
 
-use dispatcher_rules::state::{MAX_VARIANTS, NO_VARIANT, Tag, Variant};
+use dispatcher_rules::state::{MAX_VARIANTS, Tag, Variant};
 use ipc_rules::state::{Payload, Sizes, TaskId};
 use logread::{byte_at, u16_at, u32_at, u64_at};
+use std::array;
 
 // Where the variants of `new` start, and how many bytes each has: a tag and a row.
 const VARIANTS: usize = 7;
@@ -23,13 +24,8 @@ pub fn tag_at(script: &[u8], at: usize) -> Tag
     requires { at < 128 }
     ensures { result ≡ tag_at script.now at }
 {
-    let a = byte_at(script, at);
-    let b = byte_at(script, at + 1);
-    let c = byte_at(script, at + 2);
-    let d = byte_at(script, at + 3);
-    let e = byte_at(script, at + 4);
     Tag {
-        bytes: [a, b, c, d, e],
+        bytes: array::from_fn(|k| byte_at(script, at + k)),
     }
 }
 
@@ -48,13 +44,7 @@ fn variant_at(script: &[u8], i: usize) -> Variant
 pub fn variants(script: &[u8]) -> [Variant; MAX_VARIANTS]
     ensures { result ≡ variants_at script.now }
 {
-    let mut vs = [NO_VARIANT; MAX_VARIANTS];
-    let mut i: usize = 0;
-    while i < MAX_VARIANTS {
-        vs[i] = variant_at(script, i);
-        i += 1;
-    }
-    vs
+    array::from_fn(|i| variant_at(script, i))
 }
 
 // Those of `new`.

@@ -15,7 +15,7 @@ pub fn read_record(script: &[u8]) -> Read
     if script.len() < 2 {
         return Read::Short;
     }
-    if !((script[0] == MARK[0]) & (script[1] == MARK[1])) {
+    if !script.starts_with(&MARK) {
         return Read::BadMark;
     }
     if script.len() < 3 {

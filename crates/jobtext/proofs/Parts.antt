@@ -1,4 +1,5 @@
 -- The next part of a script's text, by what the tests before it say. Assumes nothing.
+use Rattle.std.specs.Prelude.{Err}
 use mathlib.Core.Path.{◌≡◌, refl, sym, ap, ◌∙◌}
 use mathlib.Core.Bool.{Bool, true, false, ◌&&◌}
 use mathlib.Core.List.{List}
@@ -13,7 +14,7 @@ use Rattle.line.specs.Put.{written}
 use Rattle.line.proofs.Room.{whole_tail}
 use Rattle.dispatcher_rules.specs.Border.{ready_test}
 use Rattle.jobtext.specs.Answer.{part_at, last_in, part_from, place_fits, answer_of}
-use Rattle.jobscript.specs.declared.StepAnswer.TheVariants.{BadTable}
+use Rattle.jobscript.specs.declared.StepError.TheVariants.{BadTable}
 use Rattle.jobtext.specs.declared.Place.{Place}
 use Rattle.jobtext.specs.declared.Part.{Part}
 use Rattle.jobtext.proofs.Filling.{nothing_written}
@@ -29,7 +30,7 @@ module _ (script out : List ℕ) (p : Place) (q : Bool) (e : q ≡ ready_test p.
   abbrev Gives : Part → List ℕ → Type 0
   Gives r left = (r ≡ part_at 0 (answer_of script (length out) p)) × (left ≡ written out 0 (answer_of script (length out) p).text)
 
-  pub misplaced : test ≡ false → Gives (record { answer = BadTable; at = 0; place = p }) out
+  pub misplaced : test ≡ false → Gives (record { answer = Err BadTable; at = 0; place = p }) out
   unfolding answer_of pick
   misplaced n =
       let f : place_fits script p ≡ false = sym same ∙ n in

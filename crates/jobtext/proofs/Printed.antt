@@ -1,4 +1,5 @@
 -- What is printed of a script, part after part, is the script's text, whatever buffers are lent. Assumes nothing.
+use Rattle.std.specs.Prelude.{Err, Ok}
 use mathlib.Core.Path.{◌≡◌, refl, sym, ap, ◌∙◌}
 use mathlib.Core.Bool.{Bool, true, false}
 use mathlib.Core.List.{List, [], ◌++◌, append_assoc}
@@ -15,7 +16,7 @@ use Rattle.line.proofs.Room.{written_length}
 use Rattle.jobscript.specs.Step.{step_number}
 use Rattle.jobtext.specs.Text.{said_at, place_after, last_line, text_from, most, text_at}
 use Rattle.jobtext.specs.Answer.{Spoken, spoken, after_text, part_at, last_in, part_from, answer_of, Prints, last, next, AnswersPrint}
-use Rattle.jobscript.specs.declared.StepAnswer.TheVariants.{Took, NoRoom, BadTable}
+use Rattle.jobscript.specs.declared.StepError.TheVariants.{NoRoom, BadTable}
 use Rattle.jobtext.specs.declared.Place.{Place}
 use Rattle.jobtext.specs.declared.Part.{Part}
 use Rattle.jobtext.proofs.Saids.{said_used}
@@ -36,7 +37,7 @@ part_fits zero size at rest p h = last_fits size at 0 p.offset p h
 part_fits (suc k) size at rest p h =
     all_pick Fits _ _ _
     (λ _. all_pick Fits _ _ _
-    (λ _. all_pick Fits _ _ (spoken [] NoRoom p)
+    (λ _. all_pick Fits _ _ (spoken [] (Err NoRoom) p)
     (λ f. fits_after size at (said_at rest p).text (part_from k size (at + length (said_at rest p).text) (drop (said_at rest p).used rest) (place_after p (said_at rest p)))
     (part_fits k size (at + length (said_at rest p).text) (drop (said_at rest p).used rest) (place_after p (said_at rest p)) (leb-true _ _ f)))
     (λ _. omega arith))
@@ -49,7 +50,7 @@ part_fits (suc k) size at rest p h =
 answer_fits : (script : List ℕ) (size : ℕ) (p : Place) → 0 + length (answer_of script size p).text ≤ size
 unfolding answer_of
 answer_fits script size p =
-    all_pick (λ (s : Spoken). 0 + length s.text ≤ size) _ _ (spoken [] BadTable p)
+    all_pick (λ (s : Spoken). 0 + length s.text ≤ size) _ _ (spoken [] (Err BadTable) p)
     (λ _. all_pick (λ (s : Spoken). 0 + length s.text ≤ size) _ _ _ (λ _. last_fits size 0 28 most p (omega arith)) (λ _. part_fits _ size 0 _ p (omega arith)))
     (λ _. omega arith)
 
@@ -99,11 +100,11 @@ module _ (script : List ℕ) where
 
   -- the last part is all of the text; another, with the text of its place, is
   pub record Says (left : Place → List ℕ) (text : List ℕ) (s : Spoken) : Type 0 where
-    pub whole : s.answer ≡ Took → s.text ≡ text
-    pub begun : s.answer ≡ NoRoom → s.text ++ left s.place ≡ text
+    pub whole : s.answer ≡ Ok tt → s.text ≡ text
+    pub begun : s.answer ≡ Err NoRoom → s.text ++ left s.place ≡ text
 
   module _ (left : Place → List ℕ) where
-    none_says : (text : List ℕ) (p : Place) → left p ≡ text → Says left text (spoken [] NoRoom p)
+    none_says : (text : List ℕ) (p : Place) → left p ≡ text → Says left text (spoken [] (Err NoRoom) p)
     none_says text p e = record { whole = λ x. let z : ◌≡◌ {A = ℕ} 0 1 = cc in absurd (omega arith); begun = λ _. e }
 
     last_says : (size at number offset : ℕ) (p : Place) (text : List ℕ) → last_line number offset p.done ≡ text → left p ≡ text → Says left text (last_in size at number offset p)
@@ -154,7 +155,7 @@ module _ (script : List ℕ) where
   pub answer_says : (size : ℕ) (p : Place) → Says (text_at script) (text_at script p) (answer_of script size p)
   unfolding answer_of
   answer_says size p =
-      all_pick (Says (text_at script) (text_at script p)) _ _ (spoken [] BadTable p)
+      all_pick (Says (text_at script) (text_at script p)) _ _ (spoken [] (Err BadTable) p)
       (λ _. all_pick (Says (text_at script) (text_at script p)) _ _ _
       (λ t. last_says (text_at script) size 0 28 most p (text_at script p) (one_line t p) refl)
       (λ f. rw (all_left f p) (within _ _ f (says (length (drop p.offset script)) size 0 (drop p.offset script) p refl (omega arith)))))

@@ -1,4 +1,5 @@
 -- Where a part leaves off: at a place that fits the script, further on than it began where its buffer has 315 bytes or more. Assumes nothing.
+use Rattle.std.specs.Prelude.{Err, Ok}
 use mathlib.Core.Path.{◌≡◌, refl, ap, ◌∙◌}
 use mathlib.Core.Bool.{true}
 use mathlib.Core.List.{List, []}
@@ -21,7 +22,7 @@ use Rattle.dispatcher_rules.proofs.Binds as binds
 use Rattle.jobscript.specs.Read.{job_read_of}
 use Rattle.jobscript.specs.Done.{ReadyDesk}
 use Rattle.jobscript.specs.Operations.{apply_of}
-use Rattle.jobscript.specs.declared.StepAnswer.TheVariants.{Took, NoRoom}
+use Rattle.jobscript.specs.declared.StepError.TheVariants.{NoRoom}
 use Rattle.jobscript.proofs.Applied.{apply_few}
 use Rattle.jobscript.proofs.Keeps.{start_ready}
 use Rattle.jobtext.specs.Text.{Said, said_of, said_at, place_after, last_line, most, start_place}
@@ -59,13 +60,13 @@ said_few script number d =
 
 -- ---- where a part leaves off that began at place p, and at `at` of a buffer
 pub record Leaves (script : List ℕ) (p : Place) (size at : ℕ) (s : Spoken) : Type 0 where
-  pub settled : (s.answer ≡ Took) ⊎ (s.answer ≡ NoRoom)
+  pub settled : (s.answer ≡ Ok tt) ⊎ (s.answer ≡ Err NoRoom)
   pub placed : Placed script s.place
   pub back : p.offset ≤ s.place.offset
-  pub onward : at + 315 ≤ size → s.answer ≡ NoRoom → p.offset < s.place.offset
+  pub onward : at + 315 ≤ size → s.answer ≡ Err NoRoom → p.offset < s.place.offset
 
 module _ (script : List ℕ) (size : ℕ) where
-  none_leaves : (at : ℕ) (p : Place) (line : List ℕ) → Placed script p → length line ≤ 315 → size < at + length line → Leaves script p size at (spoken [] NoRoom p)
+  none_leaves : (at : ℕ) (p : Place) (line : List ℕ) → Placed script p → length line ≤ 315 → size < at + length line → Leaves script p size at (spoken [] (Err NoRoom) p)
   none_leaves at p line h l f = record { settled = inr refl; placed = h; back = omega arith; onward = λ r _. absurd (omega arith) }
 
   last_leaves : (at number offset : ℕ) (p : Place) → Placed script p → Leaves script p size at (last_in size at number offset p)

@@ -1,4 +1,5 @@
 -- The turns of a run over a script: a record taken, and the ways in which a part ends. Assumes nothing.
+use Rattle.std.specs.Prelude.{Err}
 use mathlib.Core.Path.{◌≡◌, refl, sym, ap, ◌∙◌}
 use mathlib.Core.List.{List, [], ◌++◌, append_assoc}
 use Prim.Native.Nat.{ℕ, zero, suc, ◌+◌, ◌-◌, ◌<◌, ◌≤◌}
@@ -14,7 +15,7 @@ use Rattle.jobscript.specs.Done.{ReadyDesk}
 use Rattle.jobscript.specs.Step.{step_number}
 use Rattle.jobtext.specs.Text.{Said, said_at, place_after}
 use Rattle.jobtext.specs.Answer.{Spoken, spoken, after_text, part_at, told_of, last_in, part_from}
-use Rattle.jobscript.specs.declared.StepAnswer.TheVariants.{NoRoom}
+use Rattle.jobscript.specs.declared.StepError.TheVariants.{NoRoom}
 use Rattle.jobtext.specs.declared.Place.{Place}
 use Rattle.jobtext.specs.declared.Part.{Part}
 use Rattle.jobtext.specs.declared.inner.Told.{Told}
@@ -39,7 +40,7 @@ module _ (size at : ℕ) (rest : List ℕ) (p : Place) where
     stops n = rw (lt-ltb 0 (length rest) h, ne_eqb (step_number (said_at rest p).answer) 0 n) refl
 
     module _ (e : step_number (said_at rest p).answer ≡ 0) where
-      pub lacks : size < at + length (said_at rest p).text → part_from (suc k) size at rest p ≡ spoken [] NoRoom p
+      pub lacks : size < at + length (said_at rest p).text → part_from (suc k) size at rest p ≡ spoken [] (Err NoRoom) p
       unfolding part_from pick
       lacks f = rw (lt-ltb 0 (length rest) h, eq-eqb (step_number (said_at rest p).answer) 0 e, lt-leb (at + length (said_at rest p).text) size f) refl
 
@@ -102,9 +103,9 @@ module _ (out₀ out : List ℕ) (at : ℕ) (inside : at ≤ length out) (long :
           by : (u : Told) → Tells (length out) at p.desk said u → step_number u.answer ≡ 26 → Ends (record { answer = u.answer; at = at; place = p }) left
           by u (taken e f) z = absurd (omega arith)
           by u (crowded e f) z =
-              let x : after_text (take at out) (spoken [] NoRoom p) ≡ E = ap (after_text (take at out)) (sym (lacks (length out) at rest p j h e f)) ∙ i' in
+              let x : after_text (take at out) (spoken [] (Err NoRoom) p) ≡ E = ap (after_text (take at out)) (sym (lacks (length out) at rest p j h e f)) ∙ i' in
               let l : left ≡ out = el ∙ sym (room.no_room out at said.text f).1 in (
-                ap (λ (n : ℕ). record { answer = NoRoom; at = n; place = p }) (sym (add-zero at)) ∙ part_is (spoken [] NoRoom p) x,
+                ap (λ (n : ℕ). record { answer = Err NoRoom; at = n; place = p }) (sym (add-zero at)) ∙ part_is (spoken [] (Err NoRoom) p) x,
                 l ∙ unfilled out₀ out at inside long same ∙ ap (λ (s : Spoken). written out₀ 0 s.text) x,
               )
           by u (faulty n) z = absurd (said_roomy rest (p.done + 1) p.desk z)

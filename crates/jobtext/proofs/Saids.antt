@@ -1,4 +1,5 @@
 -- What a record says, by what its step gave; and what is known of it. Assumes nothing.
+use Rattle.std.specs.Prelude.{Err, Result, ⊤}
 use mathlib.Core.Path.{◌≡◌, refl}
 use mathlib.Core.List.{List, []}
 use Prim.Native.Nat.{ℕ, ◌≤◌}
@@ -13,13 +14,13 @@ use Rattle.jobscript.specs.Done.{ReadyDesk}
 use Rattle.jobscript.specs.Operations.{apply_of}
 use Rattle.jobscript.specs.Step.{step_number, reading, refused_step, took_step, step_of}
 use Rattle.jobtext.specs.Text.{Said, fault, saying, said_of}
-use Rattle.jobscript.specs.declared.StepAnswer.{StepAnswer}
-use Rattle.jobscript.specs.declared.StepAnswer.TheVariants.{Short, BadMark, BadOp}
+use Rattle.jobscript.specs.declared.StepError.TheVariants.{Short, BadMark, BadOp}
 use Rattle.jobscript.specs.declared.Stepped.{Stepped}
 use Rattle.jobscript.proofs.Records.{whole}
 use Rattle.jobscript.proofs.Applied.{apply_ready, apply_few}
+use Rattle.jobscript.specs.declared.StepError.{StepError}
 
-pub all_reading : {A : Type 0} (P : A → Type 0) (q : read.Read) (f : StepAnswer → A) (g : ℕ → ℕ → A) → P (f Short) → P (f BadMark) → P (f BadOp) →
+pub all_reading : {A : Type 0} (P : A → Type 0) (q : read.Read) (f : Result ⊤ StepError → A) (g : ℕ → ℕ → A) → P (f (Err Short)) → P (f (Err BadMark)) → P (f (Err BadOp)) →
     ((op len : ℕ) → q ≡ read.TheVariants.Whole op len → P (g op len)) → P (reading q f g)
 unfolding reading
 all_reading P read.TheVariants.Short f g x y z w = x

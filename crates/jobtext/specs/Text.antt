@@ -1,6 +1,6 @@
 -- The job script: the whole text that a script comes to, the line of each record and then the last line, `end` and the number of records, or
 -- `bad`, the record's offset and the fault's number. No buffer is in it.
-use Rattle.std.specs.Prelude.{List, [], ◌++◌, ℕ, zero, suc, ◌+◌, length, drop, ltb, eqb}
+use Rattle.std.specs.Prelude.{List, [], ◌++◌, ℕ, zero, suc, ◌+◌, length, drop, ltb, eqb, Ok, Result, ⊤}
 use Rattle.laws.specs.Pick.{pick}
 use Rattle.laws.specs.Refusals as no
 use Rattle.line.specs.Line.{line_of, end_of, bad_of}
@@ -9,22 +9,21 @@ use Rattle.jobscript.specs.Read.{job_read_of}
 use Rattle.jobscript.specs.Done.{Done}
 use Rattle.jobscript.specs.Operations.{start_desk, apply_of}
 use Rattle.jobscript.specs.Step.{step_number, reading}
-use Rattle.jobscript.specs.declared.StepAnswer.{StepAnswer}
-use Rattle.jobscript.specs.declared.StepAnswer.TheVariants.{Took}
 use Rattle.jobtext.specs.declared.Place.{Place}
+use Rattle.jobscript.specs.declared.StepError.{StepError}
 
 -- what one record comes to: taken, with its length, its line and the desk afterwards, or its fault
 pub record Said : Type 0 where
-  pub answer : StepAnswer
+  pub answer : Result ⊤ StepError
   pub used : ℕ
   pub text : List ℕ
   pub desk : Desk
 
-abbrev pub fault : Desk → StepAnswer → Said
+abbrev pub fault : Desk → Result ⊤ StepError → Said
 fault d a = record { answer = a; used = 0; text = []; desk = d }
 
 abbrev pub saying : ℕ → ℕ → ℕ → Done → Said
-saying number op len r = record { answer = Took; used = len; text = line_of number op r.number r.values; desk = r.desk }
+saying number op len r = record { answer = Ok tt; used = len; text = line_of number op r.number r.values; desk = r.desk }
 
 unfoldable pub said_of : List ℕ → ℕ → Desk → Said
 said_of script number d = reading (job_read_of script) (fault d) (λ op len. saying number op len (apply_of op script d))

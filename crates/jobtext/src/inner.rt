@@ -7,10 +7,11 @@ ghost use Rattle.jobtext.specs.Answer.{told_of, part_at, last_in, part_from};
 
 use crate::{Part, Place};
 use dispatcher_rules::state::Desk;
-use jobscript::StepAnswer;
 use jobscript::inner::step;
+use jobscript::{StepAnswer, StepError};
 use laws::refusals;
 use line::Written;
+use shown::Answer;
 
 // `used` bytes of the script were read, and `at` is the buffer's first free place; a refused record leaves both, and the desk.
 #[derive(Clone, Copy)]
@@ -41,13 +42,13 @@ fn tell(script: &[u8], number: u64, out: &mut [u8], at: usize, desk: Desk) -> To
     let after = s.desk;
     match line::write_line(&mut out[at..], number, s.op as u64, shown) {
         Written::Upto(n) => Told {
-            answer: StepAnswer::Took,
+            answer: Ok(()),
             used: s.used,
             at: at + n,
             desk: after,
         },
         Written::NoRoom => Told {
-            answer: StepAnswer::NoRoom,
+            answer: Err(StepError::NoRoom),
             used: 0,
             at,
             desk,
@@ -74,12 +75,12 @@ pub fn last(out: &mut [u8], at: usize, number: u8, offset: usize, place: Place) 
 {
     match write_last(&mut out[at..], number, offset, place.done) {
         Written::Upto(n) => Part {
-            answer: StepAnswer::Took,
+            answer: Ok(()),
             at: at + n,
             place,
         },
         Written::NoRoom => Part {
-            answer: StepAnswer::NoRoom,
+            answer: Err(StepError::NoRoom),
             at,
             place,
         },

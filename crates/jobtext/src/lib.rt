@@ -9,7 +9,7 @@ ghost use Rattle.jobtext.specs.Text.{start_place};
 ghost use Rattle.jobtext.specs.Answer.{part_at, answer_of};
 
 use dispatcher_rules::state::Desk;
-use jobscript::StepAnswer;
+use jobscript::{StepAnswer, StepError};
 use laws::refusals;
 
 pub mod inner;
@@ -57,7 +57,7 @@ pub fn answer(script: &[u8], out: &mut [u8], from: Place) -> Part
     let ready = dispatcher::ready(desk.dispatcher, desk.channels);
     if !((offset <= script.len()) & (done <= offset as u64) & ready) {
         return Part {
-            answer: StepAnswer::BadTable,
+            answer: Err(StepError::BadTable),
             at: 0,
             place: from,
         };

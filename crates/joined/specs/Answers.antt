@@ -1,40 +1,45 @@
 -- Document 01, "Every no, by number" and "The operation log": the number of each joined step's answer, and the values that it shows.
-use Rattle.std.specs.Prelude.{List, [], ℕ}
+use Rattle.std.specs.Prelude.{List, ℕ, Result, ⊤}
 use Rattle.laws.specs.Refusals as no
-use Rattle.ipc_rules.specs.Answers.{four_waiter_values}
+use Rattle.shown.specs.Shown.{of_either}
+use Rattle.ipc_rules.specs.Answers.{four_waiter_values, done, no_values}
 use Rattle.ipc_rules.specs.declared.state.Waiter.{Waiter}
-use Rattle.joined.specs.declared.answers.SpawnAnswer as spawn
-use Rattle.joined.specs.declared.answers.LeaveAnswer as leave
-use Rattle.joined.specs.declared.answers.GiveAnswer as give
+use Rattle.joined.specs.declared.answers.SpawnError.TheVariants as spawn
+use Rattle.joined.specs.declared.answers.LeaveError.TheVariants as leave
+use Rattle.joined.specs.declared.answers.GiveError.TheVariants as give
+use Rattle.joined.specs.declared.answers.SpawnError.{SpawnError}
+use Rattle.joined.specs.declared.answers.LeaveError.{LeaveError}
+use Rattle.joined.specs.declared.answers.GiveError.{GiveError}
 
-abbrev pub spawn_number : spawn.SpawnAnswer → ℕ
-spawn_number spawn.TheVariants.Spawned = no.none
-spawn_number spawn.TheVariants.BadWord = no.bad_word
-spawn_number spawn.TheVariants.BadRow = no.bad_row
-spawn_number spawn.TheVariants.BadTable = no.bad_table
+abbrev pub spawn_error_number : SpawnError → ℕ
+spawn_error_number spawn.BadWord = no.bad_word
+spawn_error_number spawn.BadRow = no.bad_row
+spawn_error_number spawn.BadTable = no.bad_table
 
-abbrev pub leave_number : leave.LeaveAnswer → ℕ
-leave_number leave.TheVariants.Left = no.none
-leave_number leave.TheVariants.BadRow = no.bad_row
-leave_number leave.TheVariants.BadTable = no.bad_table
+abbrev pub leave_error_number : LeaveError → ℕ
+leave_error_number leave.BadRow = no.bad_row
+leave_error_number leave.BadTable = no.bad_table
 
-abbrev pub give_number : give.GiveAnswer → ℕ
-give_number give.TheVariants.Given = no.none
-give_number give.TheVariants.BadSlot = no.bad_slot
-give_number give.TheVariants.BadTable = no.bad_table
+abbrev pub give_error_number : GiveError → ℕ
+give_error_number give.BadSlot = no.bad_slot
+give_error_number give.BadTable = no.bad_table
+
+abbrev pub spawn_number : Result ⊤ SpawnError → ℕ
+spawn_number = of_either done spawn_error_number
+
+abbrev pub leave_number : Result ⊤ LeaveError → ℕ
+leave_number = of_either done leave_error_number
+
+abbrev pub give_number : Result ⊤ GiveError → ℕ
+give_number = of_either done give_error_number
 
 -- give shows no values
-abbrev pub give_values : give.GiveAnswer → List ℕ
-give_values a = []
+abbrev pub give_values : Result ⊤ GiveError → List ℕ
+give_values = of_either no_values no_values
 
 -- the four waiters stand beside the answers of spawn and leave
-abbrev pub spawn_values : spawn.SpawnAnswer → List Waiter → List ℕ
-spawn_values spawn.TheVariants.Spawned ws = four_waiter_values ws
-spawn_values spawn.TheVariants.BadWord ws = []
-spawn_values spawn.TheVariants.BadRow ws = []
-spawn_values spawn.TheVariants.BadTable ws = []
+abbrev pub spawn_values : Result ⊤ SpawnError → List Waiter → List ℕ
+spawn_values a ws = of_either (λ _. four_waiter_values ws) no_values a
 
-abbrev pub leave_values : leave.LeaveAnswer → List Waiter → List ℕ
-leave_values leave.TheVariants.Left ws = four_waiter_values ws
-leave_values leave.TheVariants.BadRow ws = []
-leave_values leave.TheVariants.BadTable ws = []
+abbrev pub leave_values : Result ⊤ LeaveError → List Waiter → List ℕ
+leave_values a ws = of_either (λ _. four_waiter_values ws) no_values a

@@ -1,20 +1,34 @@
 // What the joined steps answer, with both tables beside it.
-ghost use Rattle.std.specs.Prelude.{◌≡◌};
-ghost use Rattle.shown.specs.Shown.{shown};
-ghost use Rattle.joined.specs.Answers.{spawn_number, spawn_values, leave_number, leave_values, give_number, give_values};
+ghost use Rattle.joined.specs.Answers.{spawn_error_number, leave_error_number, give_error_number};
 
 use capslots::Table as Rows;
-use ipc_rules::showing::four_shown;
 use ipc_rules::state::{Table as Channels, Waiter};
-use laws::refusals;
-use shown::Shown;
+use shown::{Answer, Shown};
 
-#[derive(Clone, Copy)]
-pub enum SpawnAnswer {
-    Spawned,
-    BadWord,
-    BadRow,
-    BadTable,
+pub type SpawnAnswer = Result<(), SpawnError>;
+
+pub type LeaveAnswer = Result<(), LeaveError>;
+
+pub type GiveAnswer = Result<(), GiveError>;
+
+#[derive(Clone, Copy, PartialEq, Eq)]
+pub enum SpawnError {
+    BadWord = 21,
+    BadRow = 19,
+    BadTable = 27,
+}
+
+#[derive(Clone, Copy, PartialEq, Eq)]
+pub enum LeaveError {
+    BadRow = 19,
+    BadTable = 27,
+}
+
+// As for an install, a bad row, a bad slot and an occupied one are one refusal.
+#[derive(Clone, Copy, PartialEq, Eq)]
+pub enum GiveError {
+    BadSlot = 10,
+    BadTable = 27,
 }
 
 // The waiters that letting go of the row took out stand first, in the row's order.
@@ -26,13 +40,6 @@ pub struct Spawning {
     pub rows: Rows,
 }
 
-#[derive(Clone, Copy)]
-pub enum LeaveAnswer {
-    Left,
-    BadRow,
-    BadTable,
-}
-
 // The waiters that the leave took out stand first, in the row's order.
 #[derive(Drop)]
 pub struct Leaving {
@@ -42,14 +49,6 @@ pub struct Leaving {
     pub rows: Rows,
 }
 
-// As for an install, a bad row, a bad slot and an occupied one are one refusal.
-#[derive(Clone, Copy)]
-pub enum GiveAnswer {
-    Given,
-    BadSlot,
-    BadTable,
-}
-
 #[derive(Drop)]
 pub struct Giving {
     pub answer: GiveAnswer,
@@ -57,65 +56,26 @@ pub struct Giving {
     pub rows: Rows,
 }
 
-impl SpawnAnswer {
-    pub fn number(self) -> u8
-        ensures { result ≡ spawn_number self }
-    {
-        match self {
-            SpawnAnswer::Spawned => refusals::NONE,
-            SpawnAnswer::BadWord => refusals::BAD_WORD,
-            SpawnAnswer::BadRow => refusals::BAD_ROW,
-            SpawnAnswer::BadTable => refusals::BAD_TABLE,
-        }
-    }
+impl Answer for SpawnError {
+    ghost number_of = { spawn_error_number };
 
-    // The four waiters stand beside the answer.
-    pub fn shown(self, waiters: [Waiter; 4]) -> Shown
-        ensures { result ≡ shown (spawn_number self) (spawn_values self waiters) }
-    {
-        let SpawnAnswer::Spawned = self else {
-            return shown::none(self.number());
-        };
-        four_shown(waiters)
+    fn shown(self) -> Shown {
+        Shown::new(self as u8, &[])
     }
 }
 
-impl LeaveAnswer {
-    pub fn number(self) -> u8
-        ensures { result ≡ leave_number self }
-    {
-        match self {
-            LeaveAnswer::Left => refusals::NONE,
-            LeaveAnswer::BadRow => refusals::BAD_ROW,
-            LeaveAnswer::BadTable => refusals::BAD_TABLE,
-        }
-    }
+impl Answer for LeaveError {
+    ghost number_of = { leave_error_number };
 
-    // The four waiters stand beside the answer.
-    pub fn shown(self, waiters: [Waiter; 4]) -> Shown
-        ensures { result ≡ shown (leave_number self) (leave_values self waiters) }
-    {
-        let LeaveAnswer::Left = self else {
-            return shown::none(self.number());
-        };
-        four_shown(waiters)
+    fn shown(self) -> Shown {
+        Shown::new(self as u8, &[])
     }
 }
 
-impl GiveAnswer {
-    pub fn number(self) -> u8
-        ensures { result ≡ give_number self }
-    {
-        match self {
-            GiveAnswer::Given => refusals::NONE,
-            GiveAnswer::BadSlot => refusals::BAD_SLOT,
-            GiveAnswer::BadTable => refusals::BAD_TABLE,
-        }
-    }
+impl Answer for GiveError {
+    ghost number_of = { give_error_number };
 
-    pub fn shown(self) -> Shown
-        ensures { result ≡ shown (give_number self) (give_values self) }
-    {
-        shown::none(self.number())
+    fn shown(self) -> Shown {
+        Shown::new(self as u8, &[])
     }
 }

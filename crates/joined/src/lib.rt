@@ -14,7 +14,10 @@ use ipc_rules::state::{NOBODY, Table as Channels};
 pub mod answers;
 pub mod inner;
 
-pub use answers::{GiveAnswer, Giving, LeaveAnswer, Leaving, SpawnAnswer, Spawning};
+pub use answers::{
+    GiveAnswer, GiveError, Giving, LeaveAnswer, LeaveError, Leaving, SpawnAnswer, SpawnError,
+    Spawning,
+};
 
 // A task's first row: what the row held is released, with the waiters to cancel, and each id that is then in it gets a hold.
 pub fn spawn(channels: Channels, rows: Rows, row: usize, list: &[u64]) -> Spawning
@@ -22,7 +25,7 @@ pub fn spawn(channels: Channels, rows: Rows, row: usize, list: &[u64]) -> Spawni
 {
     if !ipc_sound::sound(channels) {
         return Spawning {
-            answer: SpawnAnswer::BadTable,
+            answer: Err(SpawnError::BadTable),
             waiters: [NOBODY; 4],
             channels,
             rows,
@@ -37,7 +40,7 @@ pub fn leave(channels: Channels, rows: Rows, row: usize) -> Leaving
 {
     if !ipc_sound::sound(channels) {
         return Leaving {
-            answer: LeaveAnswer::BadTable,
+            answer: Err(LeaveError::BadTable),
             waiters: [NOBODY; 4],
             channels,
             rows,
@@ -52,7 +55,7 @@ pub fn give(channels: Channels, rows: Rows, row: usize, slot: usize, id: CapId) 
 {
     if !ipc_sound::sound(channels) {
         return Giving {
-            answer: GiveAnswer::BadTable,
+            answer: Err(GiveError::BadTable),
             channels,
             rows,
         };

@@ -1,5 +1,6 @@
 -- How a choice of a definition is settled, and what holds of each way of one. `cases` closes a function's returns, whatever the
 -- number of its tests. Assumes nothing.
+use Rattle.std.specs.Prelude.{None, Option, Some}
 use mathlib.Core.Path.{◌≡◌, refl}
 use mathlib.Core.Bool.{Bool, true, false}
 use Prim.Native.Nat.{ℕ}
@@ -7,8 +8,6 @@ use native.Mathlib.Omega.{arith}
 use borrow.Author.Tests.{lt-ltb, le-ltb, le-leb, lt-leb, eq-eqb, ne_eqb, not-true, not-false}
 use Rattle.laws.specs.Pick.{pick}
 use Rattle.laws.specs.Search.{found}
-use Rattle.laws.specs.declared.Found.{Found}
-use Rattle.laws.specs.declared.Found.TheVariants.{At, Nowhere}
 
 module _ {A : Type 0} {r : A} where
   pub yes : {t : Bool} {a : A} (b : A) → t ≡ true → r ≡ a → r ≡ pick t a b
@@ -20,11 +19,11 @@ module _ {A : Type 0} {r : A} where
   no a e h = rw e h
 
   -- q is what the code found, and p what the definition looks for
-  pub nowhere : {q p : Found} {a : A} (f : ℕ → A) → q ≡ p → q ≡ Nowhere → r ≡ a → r ≡ found p a f
+  pub nowhere : {q p : Option ℕ} {a : A} (f : ℕ → A) → q ≡ p → q ≡ None → r ≡ a → r ≡ found p a f
   unfolding found
   nowhere f e n h = rw (← e, n) h
 
-  pub at : {q p : Found} (a : A) (f : ℕ → A) (k : ℕ) → q ≡ p → q ≡ At k → r ≡ f k → r ≡ found p a f
+  pub at : {q p : Option ℕ} (a : A) (f : ℕ → A) (k : ℕ) → q ≡ p → q ≡ Some k → r ≡ f k → r ≡ found p a f
   unfolding found
   at a f k e n h = rw (← e, n) h
 
@@ -37,10 +36,10 @@ module _ {A : Type 0} (P : A → Type 0) where
   all_pick true a b y n = y refl
   all_pick false a b y n = n refl
 
-  pub all_found : (o : Found) (a : A) (f : ℕ → A) → (o ≡ Nowhere → P a) → ((k : ℕ) → o ≡ At k → P (f k)) → P (found o a f)
+  pub all_found : (o : Option ℕ) (a : A) (f : ℕ → A) → (o ≡ None → P a) → ((k : ℕ) → o ≡ Some k → P (f k)) → P (found o a f)
   unfolding found
-  all_found Nowhere a f n y = n refl
-  all_found (At k) a f n y = y k refl
+  all_found None a f n y = n refl
+  all_found (Some k) a f n y = y k refl
 
 -- a test does not go both ways
 pub not_both : (b : Bool) → b ≡ true → b ≡ false → ⊥

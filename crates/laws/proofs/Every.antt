@@ -1,13 +1,17 @@
--- A test at each index below a bound: what it says of each index, and one turn of a loop that runs it. Assumes nothing.
-use mathlib.Core.Path.{◌≡◌, refl}
-use mathlib.Core.Bool.{Bool, true, false, ◌&&◌}
+-- A test at each index below a bound: what it says of each index, one turn of a loop that runs it, and a chain that does. Assumes nothing.
+use Rattle.std.specs.List.{list_all, list_any}
+use Rattle.std.proofs.Math.Bool.{and_assoc, and-true, or_assoc, or-false}
+use mathlib.Core.Path.{◌≡◌, refl, sym, ap}
+use mathlib.Core.Bool.{Bool, true, false, ◌&&◌, ◌||◌}
+use mathlib.Core.List.{List, [], ◌∷◌}
 use mathlib.Core.Logic.{⊎_elim}
 use Prim.Native.Nat.{ℕ, zero, suc, ◌+◌, ◌<◌, ◌≤◌}
 use native.Mathlib.Nat.{not-suc-le-zero, le_of_suc-le-suc, eq-or-lt_of_le}
 use native.Mathlib.Numerals.{add-one}
 use native.Mathlib.Omega.{arith}
+use lib.ListN.{get_or, length}
 use Rattle.laws.specs.Pick.{pick}
-use Rattle.laws.specs.Every.{every, count}
+use Rattle.laws.specs.Every.{every, some, count}
 use Rattle.laws.proofs.Cases.{all_pick}
 
 pub and_left : (a b : Bool) → (a && b) ≡ true → a ≡ true
@@ -69,3 +73,26 @@ unfolding count
 count_most f zero = omega arith
 count_most f (suc n) =
     all_pick (λ k. k ≤ suc n) (f n) (count f n + 1) (count f n) (λ _. omega (arith, count_most f n)) (λ _. omega (arith, count_most f n))
+
+-- the first index, which is tested last, split off
+every_first : (f : ℕ → Bool) (n : ℕ) → every f (suc n) ≡ (f 0 && every (λ k. f (suc k)) n)
+unfolding every
+every_first f zero = sym (and-true (f 0))
+every_first f (suc n) = rw (every_first f n) (and_assoc (f 0) _ _)
+
+some_first : (f : ℕ → Bool) (n : ℕ) → some f (suc n) ≡ (f 0 || some (λ k. f (suc k)) n)
+unfolding some
+some_first f zero = sym (or-false (f 0))
+some_first f (suc n) = rw (some_first f n) (or_assoc (f 0) _ _)
+
+-- `l.iter().all(test)` and `l.iter().any(test)` test each index
+module _ {A : Type 0} (test : A → Bool) (d : A) where
+  pub all_every : (l : List A) → list_all test l ≡ every (λ k. test (get_or l k d)) (length l)
+  unfolding every
+  all_every [] = refl
+  all_every (a ∷ l) = rw (every_first (λ k. test (get_or (a ∷ l) k d)) (length l)) (ap (λ (b : Bool). test a && b) (all_every l))
+
+  pub any_some : (l : List A) → list_any test l ≡ some (λ k. test (get_or l k d)) (length l)
+  unfolding some
+  any_some [] = refl
+  any_some (a ∷ l) = rw (some_first (λ k. test (get_or (a ∷ l) k d)) (length l)) (ap (λ (b : Bool). test a || b) (any_some l))

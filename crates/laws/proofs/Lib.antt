@@ -1,6 +1,6 @@
 pub mod Cases
+pub mod Chains
 pub mod Search
-pub mod Finding
 pub mod Together
 pub mod Every
 pub mod Bools

@@ -2,11 +2,16 @@
 use mathlib.Core.Path.{◌≡◌, refl, sym, ◌∙◌}
 use mathlib.Core.Bool.{Bool, true, false}
 use mathlib.Core.List.{List, [], ◌∷◌, map}
-use Prim.Native.Nat.{ℕ, zero, suc}
+use Prim.Native.Nat.{ℕ, zero, suc, ◌<◌}
+use native.Mathlib.Omega.{arith}
 use borrow.Author.Tests.{eqb-true, eqb-false}
+use base.Fml.{Fml}
+use denote.Array.{each}
+use denote.Shadow.{shadow}
 use lib.Dec.{eqb}
 use lib.ListN.{get_or, set, replicate, length, length-map}
 use lib.Seq.{get_or-set_other}
+use mir.Val.{Val}
 
 -- what holds of every element and of what is stored holds of every element after the store
 pub all_set : {A : Type 0} (P : ℕ → A → Type 0) (l : List A) (i : ℕ) (a d : A) → P i a → ((j : ℕ) → P j (get_or l j d)) → (j : ℕ) → P j (get_or (set l i a) j d)
@@ -46,3 +51,11 @@ all_replicate P (suc n) a p (suc j) = all_replicate P n a p j
 -- an array's length, which a function knows of the elements as they are laid out, is that of the elements
 pub unmapped : (X Y : Type 0) (f : X → Y) (l : List X) (n : ℕ) → length (map f l) ≡ n → length l ≡ n
 unmapped X Y f l n p = sym (length-map l f) ∙ p
+
+-- what a type says of each element of an array, a function knows of the element at each place
+pub elements : {X : Type 0} (P : X → Type 0) (f : X → List Val → Fml) (l : List X) (us : List Val) → shadow (each X f l us) →
+    ((x : X) (u : Val) → shadow (f x (u ∷ [])) → P x) → (i : ℕ) (d : X) → i < length l → P (get_or l i d)
+elements P f [] us h g i d b = absurd (omega arith)
+elements P f (x ∷ l) [] h g i d b = absurd h
+elements P f (x ∷ l) (u ∷ us) h g zero d b = g x u h.0
+elements P f (x ∷ l) (u ∷ us) h g (suc i) d b = elements P f l us h.1 g i d (omega arith)

@@ -49,7 +49,7 @@ through_all f (suc n) [] h = refl
 through_all f zero (x ∷ l) h = absurd (not-suc-le-zero h)
 through_all f (suc n) (x ∷ l) h = ap (λ (r : List _). f x ∷ r) (through_all f n l (le_of_suc-le-suc h))
 
--- a loop `while i < n { l[i] = f(l[i]); i += 1; }` over a list of n: before it, a turn, and the end
+-- a loop `for x in l { *x = f(*x); }` over a list of n, at i: before it, a turn, and the end
 module _ {A : Type 0} (f : A → A) (before : List A) where
   pub through_none : before ≡ through f 0 before
   unfolding through
@@ -60,3 +60,5 @@ module _ {A : Type 0} (f : A → A) (before : List A) where
 
   pub through_done : (i n : ℕ) {now : List A} → length before ≡ n → i ≤ n → n ≤ i → now ≡ through f i before → now ≡ map f before
   through_done i n l a b h = h ∙ through_all f i before (omega arith)
+
+pub ruleset turns = (through_none, through_turn)

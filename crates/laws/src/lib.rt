@@ -2,10 +2,3 @@
 #![tactic(auto)]
 
 pub mod refusals;
-
-// What a search for the lowest free place finds.
-#[derive(Clone, Copy)]
-pub enum Found {
-    At(usize),
-    Nowhere,
-}

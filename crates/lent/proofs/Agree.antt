@@ -1,4 +1,5 @@
 -- The calls over references agree with those on words and on the whole table. Assumes nothing.
+use Rattle.std.specs.Prelude.{Err, Ok}
 use mathlib.Core.Path.{◌≡◌, refl}
 use mathlib.Core.Bool.{true}
 use mathlib.Core.List.{List}
@@ -9,7 +10,7 @@ use Rattle.ipc_rules.specs.State.{with_refusals}
 use Rattle.ipc_rules.specs.Holds.{register_of}
 use Rattle.ipc_sound.specs.Border.{guarded, register_call, note_authority_call, note_state_call}
 use Rattle.ipc_rules.specs.declared.state.Table.{Table}
-use Rattle.ipc_rules.specs.declared.answers.NoteAnswer.TheVariants.{Noted, BadTable}
+use Rattle.ipc_rules.specs.declared.answers.TableError.TheVariants.{BadTable}
 use Rattle.manifest.specs.Bind.{bind_slots, bind_of}
 use Rattle.manifest.specs.declared.AgentEntry.{AgentEntry}
 use Rattle.ipc_rules.specs.Counts.{authority_noted, state_noted}
@@ -25,8 +26,8 @@ unfolding bind_of pick
 bind_agrees e words h = rw h
 
 -- ---- the note calls: on a sound table they leave its counts as the lent counts are left, and nothing else of it changes
-pub authority_agrees : (t : Table) → note_authority_call t ≡ guarded t (record { answer = BadTable; table = t }) (record { answer = Noted; table = with_refusals t (authority_noted t.counters.refusals) })
+pub authority_agrees : (t : Table) → note_authority_call t ≡ guarded t (record { answer = Err BadTable; table = t }) (record { answer = Ok tt; table = with_refusals t (authority_noted t.counters.refusals) })
 authority_agrees t = refl
 
-pub state_agrees : (t : Table) → note_state_call t ≡ guarded t (record { answer = BadTable; table = t }) (record { answer = Noted; table = with_refusals t (state_noted t.counters.refusals) })
+pub state_agrees : (t : Table) → note_state_call t ≡ guarded t (record { answer = Err BadTable; table = t }) (record { answer = Ok tt; table = with_refusals t (state_noted t.counters.refusals) })
 state_agrees t = refl

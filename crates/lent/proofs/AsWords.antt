@@ -5,20 +5,19 @@ use mathlib.Core.Bool.{Bool, true, false}
 use mathlib.Core.List.{List, [], ◌∷◌, map}
 use Prim.Native.Nat.{ℕ, zero, suc, ◌<◌}
 use lib.ListN.{get_or, length, length-map}
+use Rattle.std.specs.Prelude.{None, Option, Some, Ok}
 use Rattle.laws.specs.Pick.{pick}
 use Rattle.laws.proofs.Every.{at_every}
 use Rattle.laws.proofs.Lists.{all_map}
 use Rattle.cap.specs.Slot.{vacant_slot}
 use Rattle.cap.specs.Word.{read_word, word_of, is_word, or_vacant, words_read, slots_of}
 use Rattle.cap.specs.declared.slot.Slot.{Slot}
-use Rattle.cap.specs.declared.word.WordAnswer.TheVariants.{Reads}
 use Rattle.cap.proofs.Words.{holding_back, vacant_back, reads_test}
 use Rattle.ipc_rules.specs.Opening.{opened, hold_of}
 use Rattle.ipc_rules.specs.Holds.{registered, registered_all}
 use Rattle.ipc_sound.specs.Border.{register_call}
 use Rattle.ipc_rules.specs.declared.state.Table.{Table}
-use Rattle.manifest.specs.Bind.{want_at, choice_from, choice_of, in_order, bind_slots, bind_of}
-use Rattle.manifest.specs.declared.Want.{Want}
+use Rattle.manifest.specs.Bind.{want_at, found_in, choice_from, choice_of, bind_slots, bind_of}
 use Rattle.manifest.specs.declared.AgentEntry.{AgentEntry}
 use Rattle.lent.specs.Holds.{register_slots}
 use Rattle.lent.proofs.Agree.{register_agrees, bind_agrees}
@@ -36,11 +35,11 @@ abbrev cleared : Slot → Slot
 cleared x = pick x.present x vacant_slot
 
 -- ---- words
-read_back : (x : Slot) → x.id.raw < 4294967296 → read_word (word_of x) ≡ Reads (cleared x)
+read_back : (x : Slot) → x.id.raw < 4294967296 → read_word (word_of x) ≡ Ok (cleared x)
 unfolding word_of pick
 read_back x h = by x.present
   where
-    by : (b : Bool) → read_word (word_of (record { present = b; id = x.id })) ≡ Reads (cleared (record { present = b; id = x.id }))
+    by : (b : Bool) → read_word (word_of (record { present = b; id = x.id })) ≡ Ok (cleared (record { present = b; id = x.id }))
     by true = holding_back x.id h
     by false = vacant_back
 
@@ -69,11 +68,12 @@ unfolding registered_all
 cleared_all t [] = refl
 cleared_all t (x ∷ xs) = ap (λ (u : Table). registered_all u (map cleared xs)) (cleared_registered t x) ∙ cleared_all (registered t x) xs
 
-cleared_choice : (w : Want) (x : Slot) (n : ℕ) (pool : Bool) (k : ℕ) → choice_from w (cleared x) n pool k ≡ choice_from w x n pool k
+cleared_choice : (w : Option ℕ) (x : Slot) (n : ℕ) (pool : Bool) (k : ℕ) → choice_from w (cleared x) n pool k ≡ choice_from w x n pool k
 unfolding choice_from pick
-cleared_choice w x n pool k = by x.present
+cleared_choice None x n pool k = refl
+cleared_choice (Some i) x n pool k = by x.present
   where
-    by : (b : Bool) → choice_from w (cleared (record { present = b; id = x.id })) n pool k ≡ choice_from w (record { present = b; id = x.id }) n pool k
+    by : (b : Bool) → choice_from (Some i) (cleared (record { present = b; id = x.id })) n pool k ≡ choice_from (Some i) (record { present = b; id = x.id }) n pool k
     by true = refl
     by false = refl
 
@@ -83,12 +83,17 @@ cleared_at [] i = refl
 cleared_at (x ∷ xs) zero = refl
 cleared_at (x ∷ xs) (suc i) = cleared_at xs i
 
+cleared_found : (w : Option ℕ) (xs : List Slot) → found_in w (map cleared xs) ≡ cleared (found_in w xs)
+unfolding pick
+cleared_found None xs = refl
+cleared_found (Some i) xs = cleared_at xs i
+
 cleared_slot : (e : AgentEntry) (xs : List Slot) (k : ℕ) → choice_of e (map cleared xs) k ≡ choice_of e xs k
-cleared_slot e xs k = rw (cleared_at xs (want_at e k).index, length-map xs cleared) (cleared_choice (want_at e k) (get_or xs (want_at e k).index vacant_slot) (length xs) e.packet_pool k)
+cleared_slot e xs k = rw (cleared_found (want_at e k) xs, length-map xs cleared) (cleared_choice (want_at e k) (found_in (want_at e k) xs) (length xs) e.packet_pool k)
 
 cleared_bind : (e : AgentEntry) (xs : List Slot) → bind_slots e (map cleared xs) ≡ bind_slots e xs
 unfolding bind_slots
-cleared_bind e xs = λ i. in_order (cleared_slot e xs 0 i) (cleared_slot e xs 1 i) (cleared_slot e xs 2 i) (cleared_slot e xs 3 i)
+cleared_bind e xs = rw (cleared_slot e xs 0, cleared_slot e xs 1, cleared_slot e xs 2, cleared_slot e xs 3)
 
 -- ---- both calls
 pub register_as_words : (t : Table) (xs : List Slot) → Fits xs → register_slots t xs ≡ register_call t (words_of xs)

@@ -1,4 +1,3 @@
-pub mod Registering
-pub mod Gathering
+pub mod Finding
 pub mod Agree
 pub mod AsWords

@@ -5,30 +5,16 @@ ghost use Rattle.ipc_rules.specs.Counts.{authority_noted, state_noted};
 use ipc_parts::counts::raised;
 use ipc_rules::state::Refusals;
 
-fn authority_noted(mut r: Refusals) -> Refusals
-    ensures { result ≡ authority_noted r }
-{
-    r.authority = raised(r.authority);
-    r
-}
-
-fn state_noted(mut r: Refusals) -> Refusals
-    ensures { result ≡ state_noted r }
-{
-    r.state = raised(r.state);
-    r
-}
-
 // A refusal for want of authority that was found outside the table.
 pub fn note_authority_refusal(r: &mut Refusals)
     ensures { r.new ≡ authority_noted r.old }
 {
-    *r = authority_noted(*r);
+    r.authority = raised(r.authority);
 }
 
 // A refusal for a state that should not be, found outside the table.
 pub fn note_state_refusal(r: &mut Refusals)
     ensures { r.new ≡ state_noted r.old }
 {
-    *r = state_noted(*r);
+    r.state = raised(r.state);
 }

@@ -1,6 +1,6 @@
 // The calls that take a record where it stands: the held list as a lent slice of slot records, and the refusal counts lent and raised.
 //
-// Each takes the record apart and calls a function by value; the calls on words and on whole tables remain, and agree with these.
+// The calls on words and on whole tables remain, and agree with these.
 #![tactic(auto)]
 
 pub mod binding;

@@ -1,3 +1,4 @@
+pub mod Decimal
 pub mod Pieces
 pub mod Room
 pub mod Says

@@ -98,8 +98,3 @@ module _ (out : List ℕ) (at : ℕ) (text : List ℕ) (h : at ≤ length out) w
   pub lent_within : {w : Written} → w ≡ put_of (take (length out - at) (drop at out)) 0 text → (n : ℕ) → w ≡ Upto n → at + n ≤ length out
   unfolding from_tail
   lent_within ew n e = (upto_fits out at text (at + n) (sym (lent ew refl).0 ∙ ap (from_tail at) e)).1
-
--- the text that was put stands in a buffer of its own
-pub from_buffer : (out left : List ℕ) (at : ℕ) (text part : List ℕ) (r : Written) → part ≡ text → r ≡ put_of out at part → left ≡ written out at part →
-    (r ≡ put_of out at text) × (left ≡ written out at text)
-from_buffer out left at text part r e a w = (a ∙ ap (λ (t : List ℕ). put_of out at t) e, w ∙ ap (λ (t : List ℕ). written out at t) e)

@@ -36,7 +36,3 @@ end_of records = text_of (101 ∷ 110 ∷ 100 ∷ []) (records ∷ [])
 -- the word `bad`, the record's offset and the fault's number
 abbrev pub bad_of : ℕ → ℕ → List ℕ
 bad_of offset fault = text_of (98 ∷ 97 ∷ 100 ∷ []) (offset ∷ fault ∷ [])
-
--- how many of the twelve values a count names: one above 12 names them all
-unfoldable pub most_of : ℕ → ℕ
-most_of count = pick (ltb count 12) count 12

@@ -2,8 +2,8 @@
 // is what a writer here is lent, where it fits.
 #![tactic(auto)]
 
-ghost use Rattle.std.specs.Prelude.{◌≡◌, take};
-ghost use Rattle.line.specs.Line.{line_of, end_of, bad_of};
+ghost use Rattle.std.specs.Prelude.{◌≡◌, ◌+◌, ◌*◌, ◌<◌, length, take};
+ghost use Rattle.line.specs.Line.{text_of, line_of, end_of, bad_of};
 ghost use Rattle.line.specs.Put.{written, put_of, written_number};
 
 use laws::refusals;
@@ -13,10 +13,6 @@ mod text;
 
 // No line is longer: a number of 20 digits, 14 of them after a space, and the newline.
 const LONGEST: usize = 315;
-
-const END: [u8; 3] = [101, 110, 100];
-
-const BAD: [u8; 3] = [98, 97, 100];
 
 #[derive(Clone, Copy)]
 pub enum Written {
@@ -41,21 +37,34 @@ fn put(free: &mut [u8], text: &[u8]) -> Written
     ensures answer { result ≡ put_of free.old 0 text.now }
     ensures buffer { free.new ≡ written free.old 0 text.now }
 {
-    if free.len() < text.len() {
+    let n = text.len();
+    if free.len() < n {
         return Written::NoRoom;
     }
-    text::copy(text, free);
-    Written::Upto(text.len())
+    free[..n].copy_from_slice(text);
+    Written::Upto(n)
 }
 
-// The line of a record, with what is shown of its answer.
+// The line of a record, with what is shown of its answer: there are no more than twelve values, whatever its count says.
 pub fn write_line(free: &mut [u8], number: u64, op: u64, shown: Shown) -> Written
     ensures answer { result ≡ put_of free.old 0 (line_of number op shown.number (take shown.count shown.values)) }
     ensures buffer { free.new ≡ written free.old 0 (line_of number op shown.number (take shown.count shown.values)) }
 {
-    let values = shown.values;
     let mut b = [0u8; LONGEST];
-    let n = text::line(&mut b, number, op, shown.number as u64, values, shown.count);
+    let values = shown.values;
+    let count = shown.count.min(values.len());
+    let n = text::line(&mut b, number, op, shown.number as u64, &values[..count]);
+    put(free, &b[..n])
+}
+
+// A line that starts with a word.
+fn write_said(free: &mut [u8], word: &[u8], values: &[u64]) -> Written
+    requires { length word.now + 21 * length values.now < 315 }
+    ensures answer { result ≡ put_of free.old 0 (text_of word.now values.now) }
+    ensures buffer { free.new ≡ written free.old 0 (text_of word.now values.now) }
+{
+    let mut b = [0u8; LONGEST];
+    let n = text::said(&mut b, word, values);
     put(free, &b[..n])
 }
 
@@ -64,10 +73,7 @@ pub fn write_end(free: &mut [u8], records: u64) -> Written
     ensures answer { result ≡ put_of free.old 0 (end_of records) }
     ensures buffer { free.new ≡ written free.old 0 (end_of records) }
 {
-    let mut b = [0u8; LONGEST];
-    let values = [records, 0, 0, 0, 0, 0, 0, 0, 0, 0, 0, 0];
-    let n = text::said(&mut b, END, values, 1);
-    put(free, &b[..n])
+    write_said(free, b"end", &[records])
 }
 
 // The last line of a log with a fault.
@@ -75,8 +81,5 @@ pub fn write_bad(free: &mut [u8], offset: u64, fault: u64) -> Written
     ensures answer { result ≡ put_of free.old 0 (bad_of offset fault) }
     ensures buffer { free.new ≡ written free.old 0 (bad_of offset fault) }
 {
-    let mut b = [0u8; LONGEST];
-    let values = [offset, fault, 0, 0, 0, 0, 0, 0, 0, 0, 0, 0];
-    let n = text::said(&mut b, BAD, values, 2);
-    put(free, &b[..n])
+    write_said(free, b"bad", &[offset, fault])
 }

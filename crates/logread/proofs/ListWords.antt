@@ -1,4 +1,5 @@
 -- The words of a list of the log all read, and stand for its four slots. Assumes nothing.
+use Rattle.std.specs.Prelude.{Ok}
 use mathlib.Core.Path.{◌≡◌}
 use mathlib.Core.Bool.{true}
 use mathlib.Core.List.{List}
@@ -7,7 +8,6 @@ use Rattle.laws.specs.Every.{every}
 use Rattle.laws.proofs.Cases.{all_pick}
 use Rattle.cap.specs.Word.{word_of, read_word, is_word, words_read, or_vacant, slots_of}
 use Rattle.cap.specs.declared.slot.Slot.{Slot}
-use Rattle.cap.specs.declared.word.WordAnswer.TheVariants.{Reads}
 use Rattle.cap.proofs.Words.{holding_back, vacant_back, reads_test}
 use Rattle.logread.specs.Little.{byte_at}
 use Rattle.logread.specs.Lists.{list_slot, list_slots, list_words, raw_at}
@@ -15,12 +15,12 @@ use Rattle.logread.proofs.Numbers.{below}
 
 module _ (log : List ℕ) (bytes : (i : ℕ) → byte_at log i < 256) (at : ℕ) where
   -- an entry's word reads as the entry
-  pub entry_back : (i : ℕ) → read_word (word_of (list_slot log at i)) ≡ Reads (list_slot log at i)
+  pub entry_back : (i : ℕ) → read_word (word_of (list_slot log at i)) ≡ Ok (list_slot log at i)
   unfolding list_slot
   entry_back i = all_pick P _ _ _ (λ _. all_pick P _ _ _ (λ _. vacant_back) (λ _. holding_back (record { raw = raw_at log at i }) (below log bytes 4 (at + 5 * i + 1)))) (λ _. vacant_back)
     where
       P : Slot → Type 0
-      P s = read_word (word_of s) ≡ Reads s
+      P s = read_word (word_of s) ≡ Ok s
 
   entry_word : (i : ℕ) → is_word (word_of (list_slot log at i)) ≡ true
   entry_word i = reads_test (word_of (list_slot log at i)) (list_slot log at i) (entry_back i)

@@ -39,25 +39,17 @@ pub fn list_ok(log: &[u8], at: usize) -> bool
 pub fn list_slot(log: &[u8], at: usize, i: usize) -> Slot
     ensures { result ≡ list_slot log.now at i }
 {
-    let vacant = Slot {
-        present: false,
-        id: CapId { raw: 0 },
-    };
     if i >= 4 {
-        return vacant;
+        return Slot::VACANT;
     }
     if at >= log.len() {
-        return vacant;
+        return Slot::VACANT;
     }
     let place = at + ENTRY * i;
     if byte_at(log, place) == 0 {
-        return vacant;
+        return Slot::VACANT;
     }
-    let raw = u32_at(log, place + 1);
-    Slot {
-        present: true,
-        id: CapId { raw },
-    }
+    Slot::holding(CapId::from_raw(u32_at(log, place + 1)))
 }
 
 pub fn list_slots(log: &[u8], at: usize) -> [Slot; 4]

@@ -1,64 +1,59 @@
 // An entry's slots bound to the held list. Of manifest.rs only `bind`, with an entry's slots and packet pool.
 #![tactic(auto)]
 
-ghost use Rattle.std.specs.Prelude.{◌≡◌, length};
-ghost use Rattle.cap.specs.Word.{slot_at};
-ghost use Rattle.manifest.specs.Bind.{bind_number, refused_by, choice_from, in_order, bind_of};
+ghost use Rattle.std.specs.Prelude.{◌≡◌, ◌<◌};
+ghost use Rattle.cap.specs.Word.{slots_of};
+ghost use Rattle.manifest.specs.Bind.{bind_error_number, bind_error_values, refused_by, choice_from, choice_of, choices_of, taken, in_order, bind_of};
 
-use cap::{CapId, Slot};
+use cap::Slot;
 use laws::refusals;
+use shown::{Answer, Shown};
+use std::array;
 
 pub const MAX_SLOTS: usize = 4;
 
 // Held indices from here up are the packet pool's, and need that grant.
 pub const PACKET_CAPABILITY_START: u8 = 3;
 
-// An entry's slot: an optional index into the held list. It is no id, so that an entry can reach nothing outside that list.
-#[derive(Clone, Copy)]
-pub struct Want {
-    pub present: bool,
-    pub index: u8,
-}
-
+// An entry's slots are optional indices into the held list. They are no ids, so that an entry can reach nothing outside that list.
 #[derive(Clone, Copy)]
 pub struct AgentEntry {
-    pub slots: [Want; MAX_SLOTS],
+    pub slots: [Option<u8>; MAX_SLOTS],
     pub packet_pool: bool,
 }
 
 // An index past the list asks for too much; a vacant place in it was promised and nobody filled it. So they are two refusals.
-#[derive(Clone, Copy)]
-pub enum BindAnswer {
-    Bound,
+#[derive(Clone, Copy, PartialEq, Eq)]
+pub enum BindError {
     NoSuchCapability { slot: usize, index: u8, held: usize },
     PacketPoolRequired { slot: usize, index: u8 },
     HeldVacant { slot: usize, index: u8 },
     BadWord,
 }
 
-impl BindAnswer {
-    pub fn number(self) -> u8
-        ensures { result ≡ bind_number self }
-    {
+pub type BindAnswer = Result<(), BindError>;
+
+impl Answer for BindError {
+    ghost number_of = { bind_error_number };
+
+    ghost values_of = { bind_error_values };
+
+    fn shown(self) -> Shown {
         match self {
-            BindAnswer::Bound => refusals::NONE,
-            BindAnswer::NoSuchCapability {
-                slot: _,
-                index: _,
-                held: _,
-            } => refusals::NO_SUCH_CAPABILITY,
-            BindAnswer::PacketPoolRequired { slot: _, index: _ } => refusals::PACKET_POOL_REQUIRED,
-            BindAnswer::HeldVacant { slot: _, index: _ } => refusals::HELD_VACANT,
-            BindAnswer::BadWord => refusals::BAD_WORD,
+            BindError::NoSuchCapability { slot, index, held } => Shown::new(
+                refusals::NO_SUCH_CAPABILITY,
+                &[slot as u64, index as u64, held as u64],
+            ),
+            BindError::PacketPoolRequired { slot, index } => Shown::new(
+                refusals::PACKET_POOL_REQUIRED,
+                &[slot as u64, index as u64],
+            ),
+            BindError::HeldVacant { slot, index } => {
+                Shown::new(refusals::HELD_VACANT, &[slot as u64, index as u64])
+            }
+            BindError::BadWord => Shown::new(refusals::BAD_WORD, &[]),
         }
     }
-}
-
-// What one entry slot comes to.
-#[derive(Clone, Copy)]
-pub enum Choice {
-    Takes(Slot),
-    Refuses(BindAnswer),
 }
 
 // The four places that the entry's slots take from the held list: all vacant where it is refused.
@@ -68,74 +63,74 @@ pub struct Binding {
     pub slots: [Slot; MAX_SLOTS],
 }
 
-fn refused(answer: BindAnswer) -> Binding
-    ensures { result ≡ refused_by answer }
+fn refused(refusal: BindError) -> Binding
+    ensures { result ≡ refused_by refusal }
 {
-    let vacant = Slot {
-        present: false,
-        id: CapId { raw: 0 },
-    };
     Binding {
-        answer,
-        slots: [vacant, vacant, vacant, vacant],
+        answer: Err(refusal),
+        slots: [Slot::VACANT; MAX_SLOTS],
     }
 }
 
 // What entry slot `slot` takes: `found` is the place of the held list at the index that it wants, and `held` the list's length.
-pub fn choose(want: Want, found: Slot, held: usize, pool: bool, slot: usize) -> Choice
+pub fn choose(
+    want: Option<u8>,
+    found: Slot,
+    held: usize,
+    pool: bool,
+    slot: usize,
+) -> Result<Slot, BindError>
     ensures { result ≡ choice_from want found held pool slot }
 {
-    if !want.present {
-        return Choice::Takes(Slot {
-            present: false,
-            id: CapId { raw: 0 },
-        });
+    let Some(index) = want else {
+        return Ok(Slot::VACANT);
+    };
+    if index as usize >= held {
+        return Err(BindError::NoSuchCapability { slot, index, held });
     }
-    let index = want.index;
-    let place = index as usize;
-    if place >= held {
-        return Choice::Refuses(BindAnswer::NoSuchCapability { slot, index, held });
-    }
-    if (index >= PACKET_CAPABILITY_START) & !pool {
-        return Choice::Refuses(BindAnswer::PacketPoolRequired { slot, index });
+    if index >= PACKET_CAPABILITY_START && !pool {
+        return Err(BindError::PacketPoolRequired { slot, index });
     }
     if !found.present {
-        return Choice::Refuses(BindAnswer::HeldVacant { slot, index });
+        return Err(BindError::HeldVacant { slot, index });
     }
-    Choice::Takes(found)
+    Ok(found)
 }
 
-// The four choices together: the first refusal among them, or the places that they take.
-pub fn in_order(a: Choice, b: Choice, c: Choice, d: Choice) -> Binding
-    ensures { result ≡ in_order a b c d }
+// The places that the choices take, or the first refusal among them.
+fn taken(choices: [Result<Slot, BindError>; MAX_SLOTS]) -> Result<[Slot; MAX_SLOTS], BindError>
+    ensures { result ≡ taken choices }
 {
-    let first = match a {
-        Choice::Takes(s) => s,
-        Choice::Refuses(answer) => return refused(answer),
-    };
-    let second = match b {
-        Choice::Takes(s) => s,
-        Choice::Refuses(answer) => return refused(answer),
-    };
-    let third = match c {
-        Choice::Takes(s) => s,
-        Choice::Refuses(answer) => return refused(answer),
-    };
-    let fourth = match d {
-        Choice::Takes(s) => s,
-        Choice::Refuses(answer) => return refused(answer),
-    };
-    Binding {
-        answer: BindAnswer::Bound,
-        slots: [first, second, third, fourth],
+    let [a, b, c, d] = choices;
+    Ok([a?, b?, c?, d?])
+}
+
+// The entry's choices upward, stopping at the first refusal.
+pub fn in_order(choices: [Result<Slot, BindError>; MAX_SLOTS]) -> Binding
+    ensures { result ≡ in_order choices }
+{
+    match taken(choices) {
+        Ok(slots) => Binding {
+            answer: Ok(()),
+            slots,
+        },
+        Err(refusal) => refused(refusal),
     }
 }
 
-fn choose_word(want: Want, held: &[u64], pool: bool, slot: usize) -> Choice
-    ensures { result ≡ choice_from want (slot_at held.now want.index) (length held.now) pool slot }
+fn choose_word(entry: AgentEntry, held: &[u64], slot: usize) -> Result<Slot, BindError>
+    requires { slot < 4 }
+    ensures { result ≡ choice_of entry (slots_of held.now) slot }
 {
-    let found = cap::slot_at(held, want.index as usize);
-    choose(want, found, held.len(), pool, slot)
+    let want = entry.slots[slot];
+    let found = want.map_or(Slot::VACANT, |index| cap::slot_at(held, index as usize));
+    choose(want, found, held.len(), entry.packet_pool, slot)
+}
+
+fn choices(entry: AgentEntry, held: &[u64]) -> [Result<Slot, BindError>; MAX_SLOTS]
+    ensures { result ≡ choices_of entry (slots_of held.now) }
+{
+    array::from_fn(|slot| choose_word(entry, held, slot))
 }
 
 // An index turned into an id by indexing: what is bound was held.
@@ -143,12 +138,7 @@ pub fn bind(entry: AgentEntry, held: &[u64]) -> Binding
     ensures { result ≡ bind_of entry held.now }
 {
     if !cap::words_read(held) {
-        return refused(BindAnswer::BadWord);
+        return refused(BindError::BadWord);
     }
-    let pool = entry.packet_pool;
-    let a = choose_word(entry.slots[0], held, pool, 0);
-    let b = choose_word(entry.slots[1], held, pool, 1);
-    let c = choose_word(entry.slots[2], held, pool, 2);
-    let d = choose_word(entry.slots[3], held, pool, 3);
-    in_order(a, b, c, d)
+    in_order(choices(entry, held))
 }

@@ -1,4 +1,5 @@
 -- What the end of a number changes and what it leaves: no id names that number any more, and every other names what it named. Assumes nothing.
+use Rattle.std.specs.Prelude.{Ok}
 use mathlib.Core.Path.{◌≡◌, refl, sym, ap, ◌∙◌}
 use mathlib.Core.Bool.{Bool, true, false, ◌&&◌}
 use mathlib.Core.List.{List}
@@ -13,7 +14,6 @@ use Rattle.cap.specs.declared.CapId.{CapId}
 use Rattle.mint.specs.Entry.{no_entry, is_of, after_end}
 use Rattle.mint.specs.Entries.{entry_at, lookup_in, ended_in}
 use Rattle.mint.specs.declared.Entry.{Entry}
-use Rattle.mint.specs.declared.LookupAnswer.TheVariants.{Names}
 use Rattle.mint.proofs.Named.{lookup_named, named_on}
 
 -- each entry after the end is the one before, ended where it is the number's
@@ -51,7 +51,7 @@ end_spares number e d = spared e.live (eqb e.number number) _ _ (ne_eqb _ _ d)
 
 module _ (n base : ℕ) (es : List Entry) (number : ℕ) (c : CapId) where
   -- no id names a number that has ended
-  pub ended_refused : lookup_in n base (ended_in es number) c ≡ Names number → ⊥
+  pub ended_refused : lookup_in n base (ended_in es number) c ≡ Ok number → ⊥
   ended_refused e =
       let r = lookup_named n base (ended_in es number) c number e in
       let w = ended_at es number r.at in
@@ -61,7 +61,7 @@ module _ (n base : ℕ) (es : List Entry) (number : ℕ) (c : CapId) where
       let z : ◌≡◌ {A = ℕ} 0 1 = cc in omega arith
 
   -- an id that named another goes on naming it
-  pub ended_names_on : (x : ℕ) → (x ≡ number → ⊥) → lookup_in n base es c ≡ Names x → lookup_in n base (ended_in es number) c ≡ Names x
+  pub ended_names_on : (x : ℕ) → (x ≡ number → ⊥) → lookup_in n base es c ≡ Ok x → lookup_in n base (ended_in es number) c ≡ Ok x
   ended_names_on x d e =
       let r = lookup_named n base es c x e in
       named_on _ r (ended_at es number r.at ∙ end_spares number (entry_at es r.at) (λ q. d (sym r.entry.stored ∙ q)))

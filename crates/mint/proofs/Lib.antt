@@ -1,7 +1,8 @@
 pub mod Generations
-pub mod Lookups
 pub mod Named
 pub mod Bands
+pub mod Free
 pub mod Mints
+pub mod Tables
 pub mod Ending
 pub mod Few

@@ -1,10 +1,10 @@
 -- Document 01, "Ids and the two mint tables": one entry of a mint table, minted, looked up and ended.
-use Rattle.std.specs.Prelude.{Bool, true, false, ◌&&◌, ℕ, eqb}
+use Rattle.std.specs.Prelude.{Bool, true, false, ◌&&◌, ℕ, eqb, Err, Ok, Result}
 use Rattle.laws.specs.Pick.{pick}
 use Rattle.mint.specs.Generation.{next_generation}
 use Rattle.mint.specs.declared.Entry.{Entry}
-use Rattle.mint.specs.declared.LookupAnswer.{LookupAnswer}
-use Rattle.mint.specs.declared.LookupAnswer.TheVariants.{Names, BadCap}
+use Rattle.mint.specs.declared.LookupError.TheVariants.{BadCap}
+use Rattle.mint.specs.declared.LookupError.{LookupError}
 
 -- an entry that was never minted
 abbrev pub no_entry : Entry
@@ -15,8 +15,8 @@ abbrev pub minted_entry : Entry → ℕ → Entry
 minted_entry e number = record { live = true; generation = next_generation e.generation; number = number }
 
 -- an entry names its number to an id while it is live and of the same generation
-unfoldable pub names_of : Entry → ℕ → LookupAnswer
-names_of e generation = pick e.live (pick (eqb e.generation generation) (Names e.number) BadCap) BadCap
+unfoldable pub names_of : Entry → ℕ → Result ℕ LookupError
+names_of e generation = pick e.live (pick (eqb e.generation generation) (Ok e.number) (Err BadCap)) (Err BadCap)
 
 -- an entry is a number's while it is live and stores it
 abbrev pub is_of : Entry → ℕ → Bool

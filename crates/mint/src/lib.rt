@@ -1,15 +1,18 @@
-// What the two mint tables share: an entry, its generations, and the answers. Ported from irqcap.rs and taskcap.rs.
+// What the two mint tables are: a table of entries, an entry and its generations, and the answers. Ported from irqcap.rs and taskcap.rs.
 #![tactic(auto)]
 
 ghost use Rattle.std.specs.Prelude.{◌≡◌};
-ghost use Rattle.shown.specs.Shown.{shown};
 ghost use Rattle.mint.specs.Generation.{next_generation};
 ghost use Rattle.mint.specs.Entry.{minted_entry, names_of, is_of, ended_entry};
-ghost use Rattle.mint.specs.Answer.{mint_number, mint_values, lookup_number, lookup_values};
+ghost use Rattle.mint.specs.Answer.{mint_error_number, lookup_error_number};
 
 use cap::CapId;
-use laws::refusals;
-use shown::Shown;
+use shown::{Answer, Shown};
+
+pub mod inner;
+mod table;
+
+pub use table::{IRQ_BASE, Minted, TASK_BASE, Table};
 
 // One entry of a mint table. A dead one keeps the generation of its last life, so that an id of that life stays worthless.
 #[derive(Clone, Copy)]
@@ -28,61 +31,38 @@ impl Entry {
     };
 }
 
-#[derive(Drop)]
-pub enum MintAnswer {
-    Minted(CapId),
-    NoFreeEntry,
+pub type MintAnswer = Result<CapId, MintError>;
+
+pub type LookupAnswer = Result<u32, LookupError>;
+
+#[derive(Clone, Copy, PartialEq, Eq)]
+pub enum MintError {
+    NoFreeEntry = 15,
 }
 
-#[derive(Clone, Copy)]
-pub enum LookupAnswer {
-    Names(u32),
-    BadCap,
+#[derive(Clone, Copy, PartialEq, Eq)]
+pub enum LookupError {
+    BadCap = 1,
 }
 
-impl MintAnswer {
-    pub fn number(self) -> u8
-        ensures { result ≡ mint_number self }
-    {
-        match self {
-            MintAnswer::Minted(_) => refusals::NONE,
-            MintAnswer::NoFreeEntry => refusals::NO_FREE_ENTRY,
-        }
-    }
+impl Answer for MintError {
+    ghost number_of = { mint_error_number };
 
-    // What a line shows of it.
-    pub fn shown(self) -> Shown
-        ensures { result ≡ shown (mint_number self) (mint_values self) }
-    {
-        let MintAnswer::Minted(c) = self else {
-            return shown::none(self.number());
-        };
-        shown::one(refusals::NONE, c.raw as u64)
+    fn shown(self) -> Shown {
+        Shown::new(self as u8, &[])
     }
 }
 
-impl LookupAnswer {
-    pub fn number(self) -> u8
-        ensures { result ≡ lookup_number self }
-    {
-        match self {
-            LookupAnswer::Names(_) => refusals::NONE,
-            LookupAnswer::BadCap => refusals::BAD_CAP,
-        }
-    }
+impl Answer for LookupError {
+    ghost number_of = { lookup_error_number };
 
-    // What a line shows of it.
-    pub fn shown(self) -> Shown
-        ensures { result ≡ shown (lookup_number self) (lookup_values self) }
-    {
-        let LookupAnswer::Names(n) = self else {
-            return shown::none(self.number());
-        };
-        shown::one(refusals::NONE, n as u64)
+    fn shown(self) -> Shown {
+        Shown::new(self as u8, &[])
     }
 }
 
 // 1 after 65,535, otherwise one more. So none is 0, which is what an entry that was never minted carries.
+#[tactic(auto, using(laws::proofs::Cases::cases), unfolding(crate::specs::Generation::next_generation))]
 pub fn next_generation(g: u16) -> u16
     ensures { result ≡ next_generation g }
 {
@@ -104,17 +84,17 @@ pub fn minted(e: Entry, number: u32) -> Entry
 }
 
 // What `e` answers to an id of `generation`.
+#[tactic(auto, using(laws::proofs::Cases::cases), unfolding(crate::specs::Entry::names_of))]
 pub fn names(e: Entry, generation: u16) -> LookupAnswer
     ensures { result ≡ names_of e generation }
 {
     if !e.live {
-        return LookupAnswer::BadCap;
+        return Err(LookupError::BadCap);
     }
     if e.generation != generation {
-        return LookupAnswer::BadCap;
+        return Err(LookupError::BadCap);
     }
-    let number = e.number;
-    LookupAnswer::Names(number)
+    Ok(e.number)
 }
 
 // Whether `e` is live and stores `number`.
@@ -125,9 +105,8 @@ pub fn is_of(e: Entry, number: u32) -> bool
 }
 
 // The entry `e` dead: its generation and its number stay.
-pub fn ended(mut e: Entry) -> Entry
+pub fn ended(e: Entry) -> Entry
     ensures { result ≡ ended_entry e }
 {
-    e.live = false;
-    e
+    Entry { live: false, ..e }
 }

@@ -1,4 +1,5 @@
 -- What holds of every operation: the channel table stays sound, and a line shows at most twelve values. Assumes nothing.
+use Rattle.std.specs.Prelude.{Err, Ok, Result, ⊤}
 use mathlib.Core.List.{List, [], ◌∷◌}
 use Prim.Native.Nat.{ℕ, zero, suc}
 use mathlib.Core.Bool.{not}
@@ -6,7 +7,7 @@ use lib.Dec.{lit≤, eqb}
 use lib.ListN.{get_or}
 use Rattle.laws.specs.Refusals as no
 use Rattle.laws.proofs.Cases.{all_pick}
-use Rattle.shown.proofs.Few.{Few, none_few}
+use Rattle.shown.proofs.Few.{Few, none_few, neither_few}
 use Rattle.cap.proofs.Few.{slot_few}
 use Rattle.capslots.specs.Rows.{get_of, drain_of}
 use Rattle.capslots.proofs.Few.{drain_few, holds_few}
@@ -19,8 +20,7 @@ use Rattle.ipc_rules.specs.Holds.{release_of}
 use Rattle.ipc_rules.specs.Waiters.{clear_of}
 use Rattle.ipc_rules.specs.Sound.{Sound}
 use Rattle.ipc_rules.specs.Why.{why_values}
-use Rattle.ipc_rules.specs.declared.answers.WhyAnswer.{WhyAnswer}
-use Rattle.ipc_rules.specs.declared.answers.WhyAnswer.TheVariants.{Opens, Shut, BadTable}
+use Rattle.ipc_rules.specs.declared.answers.WhyError.TheVariants.{Shut, BadTable}
 use Rattle.ipc_rules.proofs.Few.{create_few, send_few, recv_few, park_few, queued_few, revoke_few, release_few, holders_few, clear_few, counts_few}
 use Rattle.irqcap.specs.Table as irqs
 use Rattle.taskcap.specs.Table as tasks
@@ -39,6 +39,7 @@ use Rattle.operations.specs.Rows.{get_done, holds_done, seed_done, install_done,
 use Rattle.operations.specs.Operands.{id_at, task_at, payload_at}
 use Rattle.operations.specs.declared.Tables.{Tables}
 use Rattle.operations.proofs.Keeps.{new_done_kept, create_done_kept, send_done_kept, receive_done_kept, park_done_kept, revoke_done_kept, register_done_kept, release_done_kept, clear_done_kept, note_authority_done_kept, note_state_done_kept, spawn_done_kept, leave_done_kept, give_done_kept}
+use Rattle.ipc_rules.specs.declared.answers.WhyError.{WhyError}
 
 -- P holds of every element of a list
 data Every {A : Type 0} (P : A → Type 0) : List A → Type 0 where
@@ -52,12 +53,12 @@ listed P (a ∷ l) d (h ▸ hs) e zero = h
 listed P (a ∷ l) d (h ▸ hs) e (suc i) = listed P l d hs e i
 
 -- a reason is one value
-why_few : (a : WhyAnswer) → Few (why_values a)
-why_few Opens = lit≤ tt
-why_few (Shut r) = lit≤ tt
-why_few BadTable = lit≤ tt
+why_few : (a : Result ⊤ WhyError) → Few (why_values a)
+why_few (Ok tt) = lit≤ tt
+why_few (Err (Shut r)) = lit≤ tt
+why_few (Err BadTable) = lit≤ tt
 
-reasoned_few : (why : WhyAnswer) (n : ℕ) (vs : List ℕ) → Few vs → Few (reasoned why n vs)
+reasoned_few : (why : Result ⊤ WhyError) (n : ℕ) (vs : List ℕ) → Few vs → Few (reasoned why n vs)
 unfolding reasoned
 reasoned_few why n vs h = all_pick Few (eqb n no.bad_cap) (why_values why) vs (λ _. why_few why) (λ _. h)
 
@@ -120,7 +121,7 @@ module _ (log : List ℕ) (t : Tables) where
       reasoned_few _ _ _ (park_few (park_of t.channels (id_at log 3) (task_at log 7)).answer) ▸
       reasoned_few _ _ _ (queued_few (queued_of t.channels (id_at log 3))) ▸
       revoke_few (revoke_of t.channels (id_at log 3)).answer ▸
-      none_few ▸
+      neither_few _ ▸
       release_few (release_of t.channels (list_slots log 3)).answer (release_of t.channels (list_slots log 3)).waiters ▸
       holders_few (holders_of t.channels (id_at log 3)) ▸
       clear_few (clear_of t.channels (task_at log 3)).answer ▸
@@ -128,9 +129,9 @@ module _ (log : List ℕ) (t : Tables) where
       none_few ▸
       slot_few (get_of t.rows (byte_at log 3) (byte_at log 4)) ▸
       holds_few _ ▸
-      none_few ▸
-      none_few ▸
-      none_few ▸
+      neither_few _ ▸
+      neither_few _ ▸
+      neither_few _ ▸
       drain_few (drain_of t.rows (byte_at log 3)).slots ▸
       mint_few (tasks.mint_of t.tasks (little_at log 3 4)).answer ▸
       lookup_few (tasks.lookup_of t.tasks (id_at log 3)) ▸
@@ -139,7 +140,7 @@ module _ (log : List ℕ) (t : Tables) where
       lookup_few (irqs.lookup_of t.irqs (id_at log 3)) ▸
       spawn_few (spawn_of t.channels t.rows (byte_at log 3) (list_words log 4)).answer (spawn_of t.channels t.rows (byte_at log 3) (list_words log 4)).waiters ▸
       leave_few (leave_of t.channels t.rows (byte_at log 3)).answer (leave_of t.channels t.rows (byte_at log 3)).waiters ▸
-      none_few ▸
+      neither_few _ ▸
       counts_few (refusals_of t.channels) ▸
       end
 

@@ -1,5 +1,6 @@
 -- Where a line of send, receive, park or `queued` shows BadCap, there is a reason why, and what the code shows is what the rule shows. Assumes
 -- nothing.
+use Rattle.std.specs.Prelude.{Err, None, Ok, Option, Result, Some, ⊤}
 use mathlib.Core.Path.{◌≡◌, refl, sym, ap, ◌∙◌}
 use mathlib.Core.Bool.{Bool, true, false}
 use mathlib.Core.List.{List}
@@ -20,45 +21,51 @@ use Rattle.ipc_rules.specs.Why.{why_of, why_number, why_values, Explained, Expla
 use Rattle.ipc_rules.specs.declared.state.Payload.{Payload}
 use Rattle.ipc_rules.specs.declared.state.TaskId.{TaskId}
 use Rattle.ipc_rules.specs.declared.state.Table.{Table}
-use Rattle.ipc_rules.specs.declared.answers.SendAnswer as sends
-use Rattle.ipc_rules.specs.declared.answers.RecvAnswer as receives
-use Rattle.ipc_rules.specs.declared.answers.ParkAnswer as parks
-use Rattle.ipc_rules.specs.declared.answers.QueuedAnswer as queues
-use Rattle.ipc_rules.specs.declared.answers.WhyAnswer.{WhyAnswer}
+use Rattle.ipc_rules.specs.declared.answers.SendError.TheVariants as sends
+use Rattle.ipc_rules.specs.declared.answers.RecvError.TheVariants as receives
+use Rattle.ipc_rules.specs.declared.answers.ParkError.TheVariants as parks
+use Rattle.ipc_rules.specs.declared.answers.CapError.TheVariants as queues
 use Rattle.ipc_rules.specs.declared.opening.Asked.TheVariants.{Send, Receive, Either}
 use Rattle.ipc_rules.proofs.Why.{reasons_tie}
 use Rattle.operations.specs.Channels.{reasoned, reasoned_in}
+use Rattle.ipc_rules.specs.declared.state.Waiter.{Waiter}
+use Rattle.ipc_rules.specs.declared.answers.SendError.{SendError}
+use Rattle.ipc_rules.specs.declared.state.Message.{Message}
+use Rattle.ipc_rules.specs.declared.answers.RecvError.{RecvError}
+use Rattle.ipc_rules.specs.declared.answers.ParkError.{ParkError}
+use Rattle.ipc_rules.specs.declared.answers.CapError.{CapError}
+use Rattle.ipc_rules.specs.declared.answers.WhyError.{WhyError}
 
 -- ---- the number of BadCap is BadCap's alone
-send_bad_cap : (a : sends.SendAnswer) → send_number a ≡ no.bad_cap → a ≡ sends.TheVariants.BadCap
-send_bad_cap (sends.TheVariants.Sent w) e = absurd (omega arith)
-send_bad_cap sends.TheVariants.BadRow e = absurd (omega arith)
-send_bad_cap sends.TheVariants.BadCap e = refl
-send_bad_cap sends.TheVariants.Full e = absurd (omega arith)
-send_bad_cap sends.TheVariants.BadTable e = absurd (omega arith)
+send_bad_cap : (a : Result Waiter SendError) → send_number a ≡ no.bad_cap → a ≡ Err sends.BadCap
+send_bad_cap (Ok w) e = absurd (omega arith)
+send_bad_cap (Err sends.BadRow) e = absurd (omega arith)
+send_bad_cap (Err sends.BadCap) e = refl
+send_bad_cap (Err sends.Full) e = absurd (omega arith)
+send_bad_cap (Err sends.BadTable) e = absurd (omega arith)
 
-recv_bad_cap : (a : receives.RecvAnswer) → recv_number a ≡ no.bad_cap → a ≡ receives.TheVariants.BadCap
-recv_bad_cap (receives.TheVariants.Received m) e = absurd (omega arith)
-recv_bad_cap receives.TheVariants.BadCap e = refl
-recv_bad_cap receives.TheVariants.Empty e = absurd (omega arith)
-recv_bad_cap receives.TheVariants.BadTable e = absurd (omega arith)
+recv_bad_cap : (a : Result Message RecvError) → recv_number a ≡ no.bad_cap → a ≡ Err receives.BadCap
+recv_bad_cap (Ok m) e = absurd (omega arith)
+recv_bad_cap (Err receives.BadCap) e = refl
+recv_bad_cap (Err receives.Empty) e = absurd (omega arith)
+recv_bad_cap (Err receives.BadTable) e = absurd (omega arith)
 
-park_bad_cap : (a : parks.ParkAnswer) → park_number a ≡ no.bad_cap → a ≡ parks.TheVariants.BadCap
-park_bad_cap parks.TheVariants.Parked e = absurd (omega arith)
-park_bad_cap (parks.TheVariants.Given m) e = absurd (omega arith)
-park_bad_cap parks.TheVariants.BadCap e = refl
-park_bad_cap parks.TheVariants.Busy e = absurd (omega arith)
-park_bad_cap parks.TheVariants.Cancelled e = absurd (omega arith)
-park_bad_cap parks.TheVariants.BadTable e = absurd (omega arith)
+park_bad_cap : (a : Result (Option Message) ParkError) → park_number a ≡ no.bad_cap → a ≡ Err parks.BadCap
+park_bad_cap (Ok None) e = absurd (omega arith)
+park_bad_cap (Ok (Some m)) e = absurd (omega arith)
+park_bad_cap (Err parks.BadCap) e = refl
+park_bad_cap (Err parks.Busy) e = absurd (omega arith)
+park_bad_cap (Err parks.Cancelled) e = absurd (omega arith)
+park_bad_cap (Err parks.BadTable) e = absurd (omega arith)
 
-queued_bad_cap : (a : queues.QueuedAnswer) → queued_number a ≡ no.bad_cap → a ≡ queues.TheVariants.BadCap
-queued_bad_cap (queues.TheVariants.Queued n) e = absurd (omega arith)
-queued_bad_cap queues.TheVariants.BadCap e = refl
-queued_bad_cap queues.TheVariants.BadTable e = absurd (omega arith)
+queued_bad_cap : (a : Result ℕ CapError) → queued_number a ≡ no.bad_cap → a ≡ Err queues.BadCap
+queued_bad_cap (Ok n) e = absurd (omega arith)
+queued_bad_cap (Err queues.BadCap) e = refl
+queued_bad_cap (Err queues.BadTable) e = absurd (omega arith)
 
 -- ---- so the number is there exactly where there is a reason
 module _ (t : Table) (c : CapId) where
-  by_number : {A : Type 0} (number : A → ℕ) {w : WhyAnswer} {a b : A} → number b ≡ no.bad_cap → (number a ≡ no.bad_cap → a ≡ b) → Explains w (a ≡ b) → Explains w (number a ≡ no.bad_cap)
+  by_number : {A : Type 0} (number : A → ℕ) {w : Result ⊤ WhyError} {a b : A} → number b ≡ no.bad_cap → (number a ≡ no.bad_cap → a ≡ b) → Explains w (a ≡ b) → Explains w (number a ≡ no.bad_cap)
   by_number number h alone e = record { explained = λ n. e.explained (alone n); only = λ r q. ap number (e.only r q) ∙ h }
 
   -- of a send by a row that is there
@@ -87,7 +94,7 @@ module _ (t : Table) (c : CapId) where
       by false g = (send_explains p row (leb-false 54 row g)).explained h
 
 -- ---- what the code shows
-pub reason_shown : {A : Type 0} (number : A → ℕ) (values : A → List ℕ) {q p : A} {r s : Shown} (why : WhyAnswer) → q ≡ p → (number p ≡ no.bad_cap → Explained why) →
+pub reason_shown : {A : Type 0} (number : A → ℕ) (values : A → List ℕ) {q p : A} {r s : Shown} (why : Result ⊤ WhyError) → q ≡ p → (number p ≡ no.bad_cap → Explained why) →
     r ≡ reasoned_in why s → s ≡ shown (number q) (values q) → r ≡ shown (number q) (reasoned why (number q) (values q))
 unfolding reasoned reasoned_in pick
 reason_shown number values {q = q} why e explained g h = rw (g, h) (by (eqb (number q) no.bad_cap) refl)

@@ -1,9 +1,9 @@
 -- Each operation that calls the channel table leaves it sound. Assumes nothing.
+use Rattle.std.specs.Prelude.{Result, ⊤}
 use mathlib.Core.List.{List}
 use Prim.Native.Nat.{ℕ}
 use Rattle.ipc_rules.specs.Sound.{Sound}
 use Rattle.ipc_rules.specs.Holds.{register_of, release_of}
-use Rattle.ipc_rules.specs.declared.answers.Registering.{Registering}
 use Rattle.ipc_rules.proofs.Fresh.{in_range_of, fresh_sound}
 use Rattle.ipc_rules.proofs.Keeps.{counts_kept}
 use Rattle.ipc_rules.proofs.KeepsCalls.{send_kept, recv_kept, park_kept, registered_all_kept, released_all_kept}
@@ -17,6 +17,9 @@ use Rattle.operations.specs.Holds.{register_done, release_done}
 use Rattle.operations.specs.Joined.{spawn_done, leave_done, give_done}
 use Rattle.operations.specs.Done.{Done}
 use Rattle.operations.specs.declared.Tables.{Tables}
+use Rattle.ipc_rules.specs.declared.answers.RegisterError.{RegisterError}
+use Rattle.shown.specs.declared.Answered.{Answered}
+use Rattle.ipc_rules.specs.declared.state.Table.{Table as Channels}
 
 module _ (log : List ℕ) (t : Tables) (s : Sound t.channels) where
   pub new_done_kept : Sound (new_done log t).tables.channels
@@ -57,7 +60,7 @@ module _ (log : List ℕ) (t : Tables) (s : Sound t.channels) where
 
   pub register_done_kept : Sound (register_done log t).tables.channels
   unfolding register_done register_of
-  register_done_kept = all_pick (λ (r : Registering). Sound r.table) _ _ _ (λ _. registered_all_kept t.channels _ s) (λ _. s)
+  register_done_kept = all_pick (λ (r : Answered (Result ⊤ RegisterError) Channels). Sound r.table) _ _ _ (λ _. registered_all_kept t.channels _ s) (λ _. s)
 
   pub release_done_kept : Sound (release_done log t).tables.channels
   unfolding release_done release_of

@@ -1,5 +1,5 @@
 -- Document 01, "The operation log", operations 0 to 6, 9 to 12 and 27: the calls on the channel table.
-use Rattle.std.specs.Prelude.{not, List, [], ℕ, eqb}
+use Rattle.std.specs.Prelude.{not, List, [], ℕ, eqb, Option, Result, ⊤}
 use Rattle.laws.specs.Pick.{pick}
 use Rattle.laws.specs.Refusals as no
 use Rattle.shown.specs.Shown.{shown}
@@ -18,60 +18,62 @@ use Rattle.ipc_rules.specs.Revoke.{revoke_of}
 use Rattle.ipc_rules.specs.Send.{send_of}
 use Rattle.ipc_rules.specs.Waiters.{clear_of}
 use Rattle.ipc_rules.specs.Why.{why_of, why_number, why_values}
-use Rattle.ipc_rules.specs.declared.answers.New.{New}
-use Rattle.ipc_rules.specs.declared.answers.Creation.{Creation}
-use Rattle.ipc_rules.specs.declared.answers.Sending.{Sending}
-use Rattle.ipc_rules.specs.declared.answers.Receiving.{Receiving}
-use Rattle.ipc_rules.specs.declared.answers.Parking.{Parking}
-use Rattle.ipc_rules.specs.declared.answers.Revoking.{Revoking}
-use Rattle.ipc_rules.specs.declared.answers.Clearing.{Clearing}
-use Rattle.ipc_rules.specs.declared.answers.Noting.{Noting}
-use Rattle.ipc_rules.specs.declared.answers.QueuedAnswer.{QueuedAnswer}
-use Rattle.ipc_rules.specs.declared.answers.HoldersAnswer.{HoldersAnswer}
-use Rattle.ipc_rules.specs.declared.answers.WhyAnswer.{WhyAnswer}
 use Rattle.ipc_rules.specs.declared.opening.Asked.TheVariants.{Send, Receive, Either}
 use Rattle.logread.specs.Little.{byte_at}
 use Rattle.operations.specs.Done.{Done, done, with_channels}
 use Rattle.operations.specs.Operands.{id_at, task_at, payload_at, sizes_at}
 use Rattle.operations.specs.declared.Tables.{Tables}
 use Rattle.operations.specs.declared.fresh.Fresh.{Fresh}
+use Rattle.ipc_rules.specs.declared.answers.NewError.{NewError}
+use Rattle.shown.specs.declared.Answered.{Answered}
+use Rattle.ipc_rules.specs.declared.state.Table.{Table as Channels}
+use Rattle.ipc_rules.specs.declared.state.Channel.{Channel}
+use Rattle.ipc_rules.specs.declared.answers.CreateError.{CreateError}
+use Rattle.ipc_rules.specs.declared.state.Waiter.{Waiter}
+use Rattle.ipc_rules.specs.declared.answers.SendError.{SendError}
+use Rattle.ipc_rules.specs.declared.state.Message.{Message}
+use Rattle.ipc_rules.specs.declared.answers.RecvError.{RecvError}
+use Rattle.ipc_rules.specs.declared.answers.ParkError.{ParkError}
+use Rattle.ipc_rules.specs.declared.answers.CapError.{CapError}
+use Rattle.ipc_rules.specs.declared.answers.TableError.{TableError}
+use Rattle.ipc_rules.specs.declared.answers.WhyError.{WhyError}
 
 -- ---- the reason at a line's end
 -- request No. 6, "the reason, 1 to 4, only ends the replay lines on which send, receive, park or `queued` prints BadCap": the values of such a
 -- line, by its number. BadCap has none of its own
-unfoldable pub reasoned : WhyAnswer → ℕ → List ℕ → List ℕ
+unfoldable pub reasoned : Result ⊤ WhyError → ℕ → List ℕ → List ℕ
 reasoned why n vs = pick (eqb n no.bad_cap) (why_values why) vs
 
 -- the same as the code has it, where BadCap and a reason come together (`ReasonsTie`)
-unfoldable pub reasoned_in : WhyAnswer → Shown → Shown
+unfoldable pub reasoned_in : Result ⊤ WhyError → Shown → Shown
 reasoned_in why s = pick (eqb s.number no.bad_cap) (shown (why_number why) (why_values why)) s
 
 -- ---- what a call's answer and table come to
-abbrev pub after_create : Tables → Creation → Done
+abbrev pub after_create : Tables → Answered (Result Channel CreateError) Channels → Done
 after_create t r = done (create_number r.answer) (create_values r.answer) (with_channels t r.table)
 
-abbrev pub after_send : Tables → WhyAnswer → Sending → Done
+abbrev pub after_send : Tables → Result ⊤ WhyError → Answered (Result Waiter SendError) Channels → Done
 after_send t why r = done (send_number r.answer) (reasoned why (send_number r.answer) (send_values r.answer)) (with_channels t r.table)
 
-abbrev pub after_receive : Tables → WhyAnswer → Receiving → Done
+abbrev pub after_receive : Tables → Result ⊤ WhyError → Answered (Result Message RecvError) Channels → Done
 after_receive t why r = done (recv_number r.answer) (reasoned why (recv_number r.answer) (recv_values r.answer)) (with_channels t r.table)
 
-abbrev pub after_park : Tables → WhyAnswer → Parking → Done
+abbrev pub after_park : Tables → Result ⊤ WhyError → Answered (Result (Option Message) ParkError) Channels → Done
 after_park t why r = done (park_number r.answer) (reasoned why (park_number r.answer) (park_values r.answer)) (with_channels t r.table)
 
-abbrev pub after_queued : Tables → WhyAnswer → QueuedAnswer → Done
+abbrev pub after_queued : Tables → Result ⊤ WhyError → Result ℕ CapError → Done
 after_queued t why a = done (queued_number a) (reasoned why (queued_number a) (queued_values a)) t
 
-abbrev pub after_revoke : Tables → Revoking → Done
+abbrev pub after_revoke : Tables → Answered (Result Waiter CapError) Channels → Done
 after_revoke t r = done (revoke_number r.answer) (revoke_values r.answer) (with_channels t r.table)
 
-abbrev pub after_holders : Tables → HoldersAnswer → Done
+abbrev pub after_holders : Tables → Result ℕ CapError → Done
 after_holders t a = done (holders_number a) (holders_values a) t
 
-abbrev pub after_clear : Tables → Clearing → Done
+abbrev pub after_clear : Tables → Answered (Result ℕ TableError) Channels → Done
 after_clear t r = done (clear_number r.answer) (clear_values r.answer) (with_channels t r.table)
 
-abbrev pub after_note : Tables → Noting → Done
+abbrev pub after_note : Tables → Answered (Result ⊤ TableError) Channels → Done
 after_note t r = done (note_number r.answer) (note_values r.answer) (with_channels t r.table)
 
 -- every table fresh, the channel table of the sizes given
@@ -79,7 +81,7 @@ abbrev pub all_fresh : ℕ → ℕ → ℕ → Tables
 all_fresh m e d = record { channels = fresh_of (sizes_of m e d); rows = rows.fresh_table; tasks = tasks.fresh_table; irqs = irqs.fresh_table }
 
 -- the same beside the answer of the channel table's own `new`
-abbrev pub fresh_by : New → Fresh
+abbrev pub fresh_by : Answered (Result ⊤ NewError) Channels → Fresh
 fresh_by n = record { answer = n.answer; tables = record { channels = n.table; rows = rows.fresh_table; tasks = tasks.fresh_table; irqs = irqs.fresh_table } }
 
 -- ---- the operations

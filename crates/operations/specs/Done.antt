@@ -5,8 +5,8 @@ use Rattle.shown.specs.Shown.{shown}
 use Rattle.shown.specs.declared.Shown.{Shown}
 use Rattle.capslots.specs.declared.Table.{Table as Rows}
 use Rattle.ipc_rules.specs.declared.state.Table.{Table as Channels}
-use Rattle.irqcap.specs.declared.Table.{Table as Irqs}
-use Rattle.taskcap.specs.declared.Table.{Table as Tasks}
+use Rattle.irqcap.specs.Table.{Table as Irqs}
+use Rattle.taskcap.specs.Table.{Table as Tasks}
 use Rattle.operations.specs.declared.Tables.{Tables}
 use Rattle.operations.specs.declared.Outcome.{Outcome}
 

@@ -1,15 +1,17 @@
 -- Document 01, "The operation log", operations 7 and 8: the holds of a list, registered and released.
-use Rattle.std.specs.Prelude.{List, ℕ}
+use Rattle.std.specs.Prelude.{List, ℕ, Result, ⊤}
 use Rattle.ipc_rules.specs.Answers.{register_number, register_values, release_number, release_values}
 use Rattle.ipc_rules.specs.Holds.{register_of, release_of}
-use Rattle.ipc_rules.specs.declared.answers.Registering.{Registering}
 use Rattle.ipc_rules.specs.declared.answers.Releasing.{Releasing}
 use Rattle.logread.specs.Lists.{list_slots, list_words}
 use Rattle.operations.specs.Done.{Done, done, with_channels}
 use Rattle.operations.specs.declared.Tables.{Tables}
+use Rattle.ipc_rules.specs.declared.answers.RegisterError.{RegisterError}
+use Rattle.shown.specs.declared.Answered.{Answered}
+use Rattle.ipc_rules.specs.declared.state.Table.{Table as Channels}
 
 -- ---- what a call's answer and table come to
-abbrev pub after_register : Tables → Registering → Done
+abbrev pub after_register : Tables → Answered (Result ⊤ RegisterError) Channels → Done
 after_register t r = done (register_number r.answer) (register_values r.answer) (with_channels t r.table)
 
 abbrev pub after_release : Tables → Releasing → Done

@@ -1,17 +1,17 @@
 -- Document 01, "The operation log", operations 19 to 23: the calls on the two mint tables. A task is one u32 number here.
-use Rattle.std.specs.Prelude.{List, ℕ}
+use Rattle.std.specs.Prelude.{List, ℕ, Result}
 use Rattle.laws.specs.Refusals as no
 use Rattle.mint.specs.Answer.{mint_number, mint_values, lookup_number, lookup_values}
-use Rattle.mint.specs.declared.LookupAnswer.{LookupAnswer}
 use Rattle.irqcap.specs.Table as irqs
-use Rattle.irqcap.specs.declared.Minted.{Minted as IrqMinted}
+use Rattle.irqcap.specs.Table.{Minted as IrqMinted}
 use Rattle.taskcap.specs.Table as tasks
-use Rattle.taskcap.specs.declared.Minted.{Minted as TaskMinted}
+use Rattle.taskcap.specs.Table.{Minted as TaskMinted}
 use Rattle.taskcap.specs.declared.Revoked.{Revoked}
 use Rattle.logread.specs.Little.{little_at}
 use Rattle.operations.specs.Done.{Done, done, with_tasks, with_irqs}
 use Rattle.operations.specs.Operands.{id_at}
 use Rattle.operations.specs.declared.Tables.{Tables}
+use Rattle.mint.specs.declared.LookupError.{LookupError}
 
 -- ---- what a call's answer and table come to
 abbrev pub after_task_mint : Tables → TaskMinted → Done
@@ -20,7 +20,7 @@ after_task_mint t r = done (mint_number r.answer) (mint_values r.answer) (with_t
 abbrev pub after_irq_mint : Tables → IrqMinted → Done
 after_irq_mint t r = done (mint_number r.answer) (mint_values r.answer) (with_irqs t r.table)
 
-abbrev pub after_lookup : Tables → LookupAnswer → Done
+abbrev pub after_lookup : Tables → Result ℕ LookupError → Done
 after_lookup t a = done (lookup_number a) (lookup_values a) t
 
 -- nothing refuses the end of a task

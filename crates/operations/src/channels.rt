@@ -7,8 +7,8 @@ ghost use Rattle.operations.specs.Channels.{new_done, create_done, revoke_done, 
 use crate::fresh::all_fresh;
 use crate::operands::{id_at, sizes_at, task_at};
 use crate::{Outcome, Tables};
-use ipc_rules::answers::NewAnswer;
 use logread::byte_at;
+use shown::Answer;
 
 // 0: every table fresh, or all of them kept.
 pub fn op_new(t: Tables, log: &[u8]) -> Outcome
@@ -17,7 +17,7 @@ pub fn op_new(t: Tables, log: &[u8]) -> Outcome
     let made = all_fresh(sizes_at(log, 3));
     let answer = made.answer;
     let shown = answer.shown();
-    let NewAnswer::Made = answer else {
+    let Ok(()) = answer else {
         return Outcome { shown, tables: t };
     };
     let tables = made.tables;

@@ -7,8 +7,8 @@ ghost use Rattle.operations.specs.Channels.{queued_done, holders_done, note_auth
 use crate::operands::id_at;
 use crate::reasons::with_reason;
 use crate::{Outcome, Tables};
-use ipc_rules::answers::RefusalsAnswer;
 use ipc_rules::opening::Asked;
+use shown::Answer;
 
 // 5.
 pub fn op_queued(t: Tables, log: &[u8]) -> Outcome
@@ -68,9 +68,8 @@ pub fn op_counts(t: Tables) -> Outcome
     ensures { result ≡ packed (counts_done t) }
 {
     let counts = t.channels.counters.refusals;
-    let answer = RefusalsAnswer::Counts(counts);
     Outcome {
-        shown: answer.shown(),
+        shown: counts.shown(),
         tables: t,
     }
 }

@@ -5,7 +5,9 @@ ghost use Rattle.operations.specs.Done.{packed};
 ghost use Rattle.operations.specs.Holds.{register_done, release_done};
 
 use crate::{Outcome, Tables};
+use ipc_rules::showing::woken_shown;
 use logread::{list_slots, list_words};
+use shown::Answer;
 
 // 7.
 pub fn op_register(mut t: Tables, log: &[u8]) -> Outcome
@@ -34,7 +36,7 @@ pub fn op_release(mut t: Tables, log: &[u8]) -> Outcome
     let channels = released.table;
     t.channels = channels;
     Outcome {
-        shown: answer.shown(waiters),
+        shown: woken_shown(answer, waiters),
         tables: t,
     }
 }

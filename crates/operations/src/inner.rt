@@ -7,13 +7,14 @@ ghost use Rattle.operations.specs.Done.{packed};
 use crate::{Outcome, Tables, channels, counts, holds, joined_steps, messages, mints, rows};
 use laws::refusals;
 use logread::op;
+use shown::Shown;
 
 // A number that is no operation's changes nothing.
 fn unknown(t: Tables) -> Outcome
     ensures { result ≡ packed (unknown_done t) }
 {
     Outcome {
-        shown: shown::none(refusals::BAD_OP),
+        shown: Shown::new(refusals::BAD_OP, &[]),
         tables: t,
     }
 }

@@ -6,7 +6,9 @@ ghost use Rattle.operations.specs.Joined.{spawn_done, leave_done, give_done};
 
 use crate::operands::{id_at, index_at};
 use crate::{Outcome, Tables};
+use ipc_rules::showing::woken_shown;
 use logread::list_words;
+use shown::Answer;
 
 // 24.
 pub fn op_spawn(mut t: Tables, log: &[u8]) -> Outcome
@@ -22,7 +24,7 @@ pub fn op_spawn(mut t: Tables, log: &[u8]) -> Outcome
     t.channels = channels;
     t.rows = rows;
     Outcome {
-        shown: answer.shown(waiters),
+        shown: woken_shown(answer, waiters),
         tables: t,
     }
 }
@@ -40,7 +42,7 @@ pub fn op_leave(mut t: Tables, log: &[u8]) -> Outcome
     t.channels = channels;
     t.rows = rows;
     Outcome {
-        shown: answer.shown(waiters),
+        shown: woken_shown(answer, waiters),
         tables: t,
     }
 }

@@ -8,6 +8,8 @@ use crate::operands::{id_at, index_at, payload_at, task_at};
 use crate::reasons::with_reason;
 use crate::{Outcome, Tables};
 use ipc_rules::opening::Asked;
+use ipc_rules::showing::park_shown;
+use shown::Answer;
 
 // 2.
 pub fn op_send(mut t: Tables, log: &[u8]) -> Outcome
@@ -45,7 +47,7 @@ pub fn op_park(mut t: Tables, log: &[u8]) -> Outcome
     let cap = id_at(log, 3);
     let parked = ipc_queue::inner::park(t.channels, cap, task_at(log, 7));
     let answer = parked.answer;
-    let shown = with_reason(answer.shown(), t.channels, cap, Asked::Receive);
+    let shown = with_reason(park_shown(answer), t.channels, cap, Asked::Receive);
     let channels = parked.table;
     t.channels = channels;
     Outcome { shown, tables: t }

@@ -6,6 +6,7 @@ ghost use Rattle.operations.specs.Mints.{task_mint_done, task_lookup_done, task_
 use crate::operands::id_at;
 use crate::{Outcome, Tables};
 use logread::u32_at;
+use shown::Answer;
 
 // 19.
 pub fn op_task_mint(mut t: Tables, log: &[u8]) -> Outcome

@@ -8,7 +8,7 @@ use cap::CapId;
 use ipc_rules::opening::Asked;
 use ipc_rules::state::Table;
 use laws::refusals;
-use shown::Shown;
+use shown::{Answer, Shown};
 
 // What a line shows of a call with an id on this table: where that is BadCap, the reason besides.
 pub fn with_reason(answer: Shown, t: Table, cap: CapId, asked: Asked) -> Shown

@@ -6,6 +6,7 @@ ghost use Rattle.operations.specs.Rows.{get_done, holds_done, seed_done, install
 use crate::operands::{id_at, index_at};
 use crate::{Outcome, Tables};
 use logread::list_words;
+use shown::Answer;
 
 // 13.
 pub fn op_get(t: Tables, log: &[u8]) -> Outcome

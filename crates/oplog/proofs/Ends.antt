@@ -1,5 +1,6 @@
 -- A replay into buffers of 315 bytes or more comes to its end, `parts_end` and `replays_end`: each part that ends for want of room has gone
 -- forward in the log. Assumes nothing.
+use Rattle.std.specs.Prelude.{Err, Ok}
 use mathlib.Core.Path.{◌≡◌, refl, subst}
 use mathlib.Core.List.{List}
 use mathlib.Core.Logic.{◌⊎◌, inl, inr, ⊎_elim}
@@ -17,14 +18,14 @@ use Rattle.oplog.specs.Text.{most, text_at, start_of}
 use Rattle.oplog.specs.Replay.{place_fits, Filled, filled, last_line, last_of, ending_of, ran_of, replay_of, Placed, Prints}
 use Rattle.oplog.specs.Replay as whole
 use Rattle.oplog.specs.Ends.{PrintsInto, last, next, Roomy, PartsEnd, ReplaysEnd}
-use Rattle.oplog.specs.declared.StepAnswer.TheVariants.{Took, NoRoom}
+use Rattle.oplog.specs.declared.StepError.TheVariants.{NoRoom}
 use Rattle.oplog.specs.declared.replay.Place.{Place}
 use Rattle.oplog.proofs.Printed.{fits, continues, start_placed}
 use Rattle.oplog.proofs.Progress.{moves_on}
 
 -- ---- a part is the last one, or ends for want of room
 abbrev Answered : Filled → Type 0
-Answered f = (f.part.answer ≡ Took) ⊎ (f.part.answer ≡ NoRoom)
+Answered f = (f.part.answer ≡ Ok tt) ⊎ (f.part.answer ≡ Err NoRoom)
 
 last_answered : (out : List ℕ) (at number offset : ℕ) (p : Place) → Answered (last_of out at number offset p)
 unfolding last_of writing
@@ -33,7 +34,7 @@ last_answered out at number offset p = by (put_of out at line)
     line : List ℕ
     line = last_line number offset p.done
 
-    by : (r : Written) → Answered (writing r (filled NoRoom at p (written out at line)) (λ n. filled Took n p (written out at line)))
+    by : (r : Written) → Answered (writing r (filled (Err NoRoom) at p (written out at line)) (λ n. filled (Ok tt) n p (written out at line)))
     by (Upto n) = inl refl
     by Crowded = inr refl
 

@@ -1,4 +1,5 @@
 -- The parts that a replay puts into the buffers that it is lent are, one after the other, the log's text. Assumes nothing.
+use Rattle.std.specs.Prelude.{Err, Ok}
 use mathlib.Core.Path.{◌≡◌, refl, sym, ap, ◌∙◌}
 use mathlib.Core.Bool.{true}
 use mathlib.Core.List.{List, ◌++◌}
@@ -24,7 +25,7 @@ use Rattle.oplog.specs.Step.{step_number, writing, step_of, step_out}
 use Rattle.oplog.specs.Run.{Ended, run_from, run_of}
 use Rattle.oplog.specs.Text.{most, text_from, text_at, start_of, replay_text}
 use Rattle.oplog.specs.Replay.{place_fits, Filled, filled, last_line, last_of, log_place_of, ending_of, ran_of, replay_of, Placed, part_of, Prints, last, next}
-use Rattle.oplog.specs.declared.StepAnswer.TheVariants.{Took, NoRoom}
+use Rattle.oplog.specs.declared.StepError.TheVariants.{NoRoom}
 use Rattle.oplog.specs.declared.replay.Place.{Place}
 use Rattle.oplog.proofs.Runs.{used, step_kept}
 use Rattle.oplog.proofs.Replays.{is_bad}
@@ -63,10 +64,10 @@ module _ (out : List ℕ) (at number offset : ℕ) (p : Place) where
   -- what is in the buffer, and the line if it is left
   pub record Closes (f : Filled) : Type 0 where
     pub place : f.part.place ≡ p
-    pub took : f.part.answer ≡ Took → part_of f ≡ take at out ++ text
-    pub left : f.part.answer ≡ NoRoom → part_of f ≡ take at out
+    pub took : f.part.answer ≡ Ok tt → part_of f ≡ take at out ++ text
+    pub left : f.part.answer ≡ Err NoRoom → part_of f ≡ take at out
 
-  by_writing : (r : Written) → put_of out at text ≡ r → Closes (writing r (filled NoRoom at p (written out at text)) (λ n. filled Took n p (written out at text)))
+  by_writing : (r : Written) → put_of out at text ≡ r → Closes (writing r (filled (Err NoRoom) at p (written out at text)) (λ n. filled (Ok tt) n p (written out at text)))
   unfolding writing
   by_writing (Upto n) e = record { place = refl; took = λ _. upto_stands out at text n e; left = λ z. absurd (let y = ap step_number z in omega arith) }
   by_writing Crowded e = record { place = refl; took = λ z. absurd (let y = ap step_number z in omega arith); left = λ _. ap (λ (l : List ℕ). take at l) (no_room_keeps out at text e) }
@@ -83,7 +84,7 @@ module _ (out : List ℕ) (at number offset : ℕ) (p : Place) (w : at ≤ lengt
   abbrev line : List ℕ
   line = last_line number offset p.done
 
-  written_inside : (r : Written) → put_of out at line ≡ r → Inside (writing r (filled NoRoom at p (written out at line)) (λ n. filled Took n p (written out at line)))
+  written_inside : (r : Written) → put_of out at line ≡ r → Inside (writing r (filled (Err NoRoom) at p (written out at line)) (λ n. filled (Ok tt) n p (written out at line)))
   unfolding writing
   written_inside (Upto n) e = rw (written_length out at line) (upto_fits out at line n e).1
   written_inside Crowded e = rw (written_length out at line) w
@@ -110,8 +111,8 @@ part_inside log out p =
 module _ (log : List ℕ) (p : Place) (h : Placed log p) (out : List ℕ) where
   -- the last part ends the text, another leaves the text from its place on, and the replay can go on there
   pub record Continues (f : Filled) : Type 0 where
-    pub took : f.part.answer ≡ Took → part_of f ≡ text_at log p
-    pub left : f.part.answer ≡ NoRoom → part_of f ++ text_at log f.part.place ≡ text_at log p
+    pub took : f.part.answer ≡ Ok tt → part_of f ≡ text_at log p
+    pub left : f.part.answer ≡ Err NoRoom → part_of f ++ text_at log f.part.place ≡ text_at log p
     pub again : Placed log f.part.place
 
   pub fits : place_fits log p ≡ true
@@ -171,7 +172,7 @@ module _ (log : List ℕ) (p : Place) (h : Placed log p) (out : List ℕ) where
         ∙ ran.resumes
 
     -- no room for a line
-    crowded : Continues (filled NoRoom e.answer.at (log_place_of p.offset e.answer) e.buffer)
+    crowded : Continues (filled (Err NoRoom) e.answer.at (log_place_of p.offset e.answer) e.buffer)
     crowded =
         record {
           took = λ z. absurd (let y = ap step_number z in omega arith);

@@ -1,5 +1,6 @@
 -- A part of a replay that ends for want of room has taken a record, if its buffer has 315 bytes or more: so the parts come to an end.
 -- Assumes nothing.
+use Rattle.std.specs.Prelude.{Err, Ok}
 use mathlib.Core.Path.{◌≡◌, refl, ap, ◌∙◌}
 use mathlib.Core.List.{List}
 use Prim.Native.Nat.{ℕ, zero, suc, ◌+◌, ◌-◌, ◌<◌, ◌≤◌}
@@ -23,7 +24,7 @@ use Rattle.oplog.specs.Step.{step_number, reading, writing, text_of, refused_ste
 use Rattle.oplog.specs.Run.{Ended, run_from}
 use Rattle.oplog.specs.Text.{most}
 use Rattle.oplog.specs.Replay.{place_fits, Filled, filled, last_line, last_of, log_place_of, ending_of, ran_of, replay_of}
-use Rattle.oplog.specs.declared.StepAnswer.TheVariants.{Took, NoRoom}
+use Rattle.oplog.specs.declared.StepError.TheVariants.{NoRoom}
 use Rattle.oplog.specs.declared.Stepped.{Stepped}
 use Rattle.oplog.specs.declared.replay.Place.{Place}
 use Rattle.oplog.proofs.Runs.{used}
@@ -42,12 +43,12 @@ module _ (out : List ℕ) (at number offset : ℕ) (p : Place) (h : at + 46 ≤ 
   abbrev line : List ℕ
   line = last_line number offset p.done
 
-  by_written : (r : Written) → put_of out at line ≡ r → (writing r (filled NoRoom at p (written out at line)) (λ n. filled Took n p (written out at line))).part.answer ≡ NoRoom → ⊥
+  by_written : (r : Written) → put_of out at line ≡ r → (writing r (filled (Err NoRoom) at p (written out at line)) (λ n. filled (Ok tt) n p (written out at line))).part.answer ≡ Err NoRoom → ⊥
   unfolding writing
   by_written (Upto n) e z = let y : ◌≡◌ {A = ℕ} 0 26 = ap step_number z in omega arith
   by_written Crowded e z = fits_written out at line (let l = last_few number offset p.done in omega arith) e
 
-  last_room : (last_of out at number offset p).part.answer ≡ NoRoom → ⊥
+  last_room : (last_of out at number offset p).part.answer ≡ Err NoRoom → ⊥
   unfolding last_of
   last_room = by_written (put_of out at line) refl
 
@@ -63,12 +64,12 @@ module _ (log out : List ℕ) (number at : ℕ) (t : Tables) (h : at + 315 ≤ l
     text_fits : at + length text ≤ length out
     text_fits = let l = line_few number op (apply_of op log t).number (apply_of op log t).values (apply_few log t op) in omega arith
 
-    text_written : (w : Written) → put_of out at text ≡ w → Has (writing w (refused_step at t NoRoom) (λ next. record { answer = Took; used = len; at = next; tables = (apply_of op log t).tables }))
+    text_written : (w : Written) → put_of out at text ≡ w → Has (writing w (refused_step at t (Err NoRoom)) (λ next. record { answer = Ok tt; used = len; at = next; tables = (apply_of op log t).tables }))
     unfolding writing
     text_written (Upto n) e z = omega arith
     text_written Crowded e z = fits_written out at text text_fits e
 
-  by_record : (q : read.Read) → Has (reading q (refused_step at t) (λ op len. writing (put_of out at (text op len)) (refused_step at t NoRoom) (λ next. record { answer = Took; used = len; at = next; tables = (apply_of op log t).tables })))
+  by_record : (q : read.Read) → Has (reading q (refused_step at t) (λ op len. writing (put_of out at (text op len)) (refused_step at t (Err NoRoom)) (λ next. record { answer = Ok tt; used = len; at = next; tables = (apply_of op log t).tables })))
   unfolding reading
   by_record read.TheVariants.Short z = omega arith
   by_record read.TheVariants.BadMark z = omega arith
@@ -129,7 +130,7 @@ run_forward (suc k) rest done out t hk h =
 -- ---- a call
 module _ (log out : List ℕ) (p : Place) (h : 315 ≤ length out) where
   abbrev Onward : Filled → Type 0
-  Onward f = f.part.answer ≡ NoRoom → p.offset < f.part.place.offset
+  Onward f = f.part.answer ≡ Err NoRoom → p.offset < f.part.place.offset
 
   abbrev e : Ended
   e = ran_of log out p

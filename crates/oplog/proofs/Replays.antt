@@ -1,4 +1,5 @@
 -- The ways of a replay over a lent buffer: a place that is refused, a log that is too long, no room, the last line. Assumes nothing.
+use Rattle.std.specs.Prelude.{Err, Ok}
 use mathlib.Core.Path.{◌≡◌, refl}
 use mathlib.Core.Bool.{Bool, true, false, ◌&&◌}
 use mathlib.Core.List.{List, ◌++◌}
@@ -22,7 +23,7 @@ use Rattle.oplog.specs.Step.{step_number, writing}
 use Rattle.oplog.specs.Run.{Ended, run_from, run_of}
 use Rattle.oplog.specs.Text.{most}
 use Rattle.oplog.specs.Replay.{place_fits, last_line, last_of, log_place_of, ending_of, ran_of, replay_of}
-use Rattle.oplog.specs.declared.StepAnswer.TheVariants.{Took, NoRoom, BadTable}
+use Rattle.oplog.specs.declared.StepError.TheVariants.{NoRoom, BadTable}
 use Rattle.oplog.specs.declared.Ran.{Ran}
 use Rattle.oplog.specs.declared.replay.Place.{Place}
 use Rattle.oplog.specs.declared.replay.Part.{Part}
@@ -47,11 +48,11 @@ module _ (out : List ℕ) (at number offset : ℕ) (p : Place) (h : at ≤ lengt
   back : (from_tail at w ≡ put_of out at (last_line number offset p.done)) × (whole ≡ written out at (last_line number offset p.done))
   back = lent out at (last_line number offset p.done) h ew el
 
-  pub had_room : (n : ℕ) → w ≡ Upto n → (◌≡◌ {A = Part} (record { answer = Took; at = at + n; place = p }) (last_of out at number offset p).part) × (whole ≡ (last_of out at number offset p).buffer)
+  pub had_room : (n : ℕ) → w ≡ Upto n → (◌≡◌ {A = Part} (record { answer = Ok tt; at = at + n; place = p }) (last_of out at number offset p).part) × (whole ≡ (last_of out at number offset p).buffer)
   unfolding last_of writing from_tail
   had_room n e = (rw (← back.0, e) refl, rw (← back.0, e) back.1)
 
-  pub crowded : w ≡ Crowded → (◌≡◌ {A = Part} (record { answer = NoRoom; at = at; place = p }) (last_of out at number offset p).part) × (whole ≡ (last_of out at number offset p).buffer)
+  pub crowded : w ≡ Crowded → (◌≡◌ {A = Part} (record { answer = Err NoRoom; at = at; place = p }) (last_of out at number offset p).part) × (whole ≡ (last_of out at number offset p).buffer)
   unfolding last_of writing from_tail
   crowded e = (rw (← back.0, e) refl, rw (← back.0, e) back.1)
 
@@ -75,7 +76,7 @@ module _ (log out : List ℕ) (p : Place) (q : Bool) (es : q ≡ sound_test p.ta
   abbrev tested : Bool
   tested = placed && q
 
-  pub refuses : tested ≡ false → (◌≡◌ {A = Part} (record { answer = BadTable; at = 0; place = p }) (replay_of log out p).part) × (out ≡ (replay_of log out p).buffer)
+  pub refuses : tested ≡ false → (◌≡◌ {A = Part} (record { answer = Err BadTable; at = 0; place = p }) (replay_of log out p).part) × (out ≡ (replay_of log out p).buffer)
   unfolding replay_of pick
   refuses e = let h : place_fits log p ≡ false = rw (← es) e in (rw h refl, rw h refl)
 
@@ -108,7 +109,7 @@ module _ (log out : List ℕ) (p : Place) (q : Bool) (es : q ≡ sound_test p.ta
       ending = rw (fits, le-ltb most (length log) l) refl
 
       pub no_room : step_number r.answer ≡ no.no_room
-          → (◌≡◌ {A = Part} (record { answer = NoRoom; at = r.at; place = log_place_of p.offset r }) (replay_of log out p).part) × (left ≡ (replay_of log out p).buffer)
+          → (◌≡◌ {A = Part} (record { answer = Err NoRoom; at = r.at; place = log_place_of p.offset r }) (replay_of log out p).part) × (left ≡ (replay_of log out p).buffer)
       unfolding ending_of pick
       no_room n = rw (← ending) (rw (← how.0, ← how.1, eq-eqb (step_number r.answer) no.no_room n) (refl, refl))
 

@@ -1,4 +1,5 @@
 -- What a run puts into its buffer, and what is left to print where it ended, are the text of its log. Assumes nothing.
+use Rattle.std.specs.Prelude.{Err, Result, ⊤}
 use mathlib.Core.Path.{◌≡◌, refl, sym, ap, ◌∙◌}
 use mathlib.Core.List.{List, ◌++◌, append_assoc}
 use Prim.Native.Nat.{ℕ, zero, suc, ◌+◌, ◌-◌, ◌<◌, ◌≤◌}
@@ -14,12 +15,12 @@ use Rattle.oplog.specs.Step.{step_number, step_of, step_out}
 use Rattle.oplog.specs.Run.{Ended, ended, run_from}
 use Rattle.oplog.specs.Text.{Said, said_of, text_from}
 use Rattle.oplog.specs.Replay.{last_line}
-use Rattle.oplog.specs.declared.StepAnswer.{StepAnswer}
-use Rattle.oplog.specs.declared.StepAnswer.TheVariants.{NoRoom}
+use Rattle.oplog.specs.declared.StepError.TheVariants.{NoRoom}
 use Rattle.oplog.specs.declared.Stepped.{Stepped}
 use Rattle.oplog.proofs.Runs.{finish, turn, refuse}
 use Rattle.oplog.proofs.Replays.{is_end_lem, is_bad}
 use Rattle.oplog.proofs.Texts.{StepWays, took, crowded, faulty, step_ways, took_number, said_used, text_end, text_taken, text_fault, enough}
+use Rattle.oplog.specs.declared.StepError.{StepError}
 
 -- a run over `log`, which is what follows the first `from` bytes of a longer one
 module _ (log : List ℕ) (from : ℕ) where
@@ -74,13 +75,13 @@ module _ (log : List ℕ) (from : ℕ) where
       resumed = ap (λ (r : List ℕ). text_from all r here done t) (sym er) ∙ enough all (suc k) rest here done t ha hk
 
       -- where a step was refused, its answer a
-      stopped : (a : StepAnswer) → s.answer ≡ a → (step_number a ≡ 0 → ⊥) → left ≡ out →
+      stopped : (a : Result ⊤ StepError) → s.answer ≡ a → (step_number a ≡ 0 → ⊥) → left ≡ out →
           left_of (ended a (all - length rest) done at t out) ≡ text_from (suc k) rest here done t → Goal
       stopped a e n l x =
           rw (refuse all rest done out at t k h (λ z. n (sym (ap step_number e) ∙ z)), e, l)
           (record { within = w; says = ap (λ (z : List ℕ). take at out ++ z) x; resumes = resumed ∙ sym x })
 
-      no_room_left : left_of (ended NoRoom (all - length rest) done at t out) ≡ text_from (suc k) rest here done t
+      no_room_left : left_of (ended (Err NoRoom) (all - length rest) done at t out) ≡ text_from (suc k) rest here done t
       unfolding left_of pick
       no_room_left = resumed
 
@@ -100,7 +101,7 @@ module _ (log : List ℕ) (from : ℕ) where
           rw (x, offset, u, ts) (append_assoc (take at out) say.text (text_from k (drop say.used rest) (here + say.used) (done + 1) say.tables)
           ∙ ap (λ (z : List ℕ). take at out ++ z) (sym (text_taken rest here done t k h (took_number _ b)))) in
           rw (turn all rest done out at t k h (took_number _ a), ← text) (again (omega arith) (omega arith) tail i)
-      by_way (crowded e l) again = stopped NoRoom (ap (λ (x : Stepped). x.answer) e) (λ z. omega arith) l no_room_left
+      by_way (crowded e l) again = stopped (Err NoRoom) (ap (λ (x : Stepped). x.answer) e) (λ z. omega arith) l no_room_left
       by_way (faulty e n m l) again = stopped say.answer (ap (λ (x : Stepped). x.answer) e) n l (fault_left n m)
 
   pub run_prints : (k : ℕ) (rest : List ℕ) (done : ℕ) (out : List ℕ) (at : ℕ) (t : Tables) → Runs k rest done out at t

@@ -1,4 +1,5 @@
 -- The turns of a run over the log. Assumes nothing.
+use Rattle.std.specs.Prelude.{Err, Ok, Result, ⊤}
 use mathlib.Core.Path.{◌≡◌, refl, sym, ap, ◌∙◌}
 use mathlib.Core.List.{List}
 use Prim.Native.Nat.{ℕ, zero, suc, ◌+◌, ◌-◌, ◌<◌, ◌≤◌}
@@ -17,17 +18,17 @@ use Rattle.operations.specs.declared.Tables.{Tables}
 use Rattle.operations.proofs.Applied.{apply_kept}
 use Rattle.oplog.specs.Step.{step_number, reading, writing, step_of, step_out}
 use Rattle.oplog.specs.Run.{Ended, ended, run_from}
-use Rattle.oplog.specs.declared.StepAnswer.{StepAnswer}
-use Rattle.oplog.specs.declared.StepAnswer.TheVariants.{Took, Short, BadMark, BadOp, BadOperand}
+use Rattle.oplog.specs.declared.StepError.TheVariants.{Short, BadMark, BadOp, BadOperand}
 use Rattle.oplog.specs.declared.Stepped.{Stepped}
 use Rattle.oplog.specs.declared.Ran.{Ran}
+use Rattle.oplog.specs.declared.StepError.{StepError}
 
 -- a part to the end
 pub tail_long : (out : List ℕ) (at : ℕ) → length (take (length out - at) (drop at out)) ≡ length out - at
 tail_long out at = rw (whole_tail out at) (length-drop at out)
 
 -- ---- what a step does to the log and the tables
-all_reading : {A : Type 0} (P : A → Type 0) (q : read.Read) (f : StepAnswer → A) (g : ℕ → ℕ → A) → P (f Short) → P (f BadMark) → P (f BadOp) → P (f BadOperand) → ((op len : ℕ) → q ≡ read.TheVariants.Whole op len → P (g op len)) → P (reading q f g)
+all_reading : {A : Type 0} (P : A → Type 0) (q : read.Read) (f : Result ⊤ StepError → A) (g : ℕ → ℕ → A) → P (f (Err Short)) → P (f (Err BadMark)) → P (f (Err BadOp)) → P (f (Err BadOperand)) → ((op len : ℕ) → q ≡ read.TheVariants.Whole op len → P (g op len)) → P (reading q f g)
 unfolding reading
 all_reading P read.TheVariants.Short f g x y z v w = x
 all_reading P read.TheVariants.BadMark f g x y z v w = y
@@ -59,7 +60,7 @@ step_kept log out number at t s =
 
 -- ---- the turns
 module _ (all : ℕ) (rest : List ℕ) (done : ℕ) (out : List ℕ) (at : ℕ) (t : Tables) where
-  pub finish : (k : ℕ) → length rest ≤ 0 → run_from all k rest done out at t ≡ ended Took all done at t out
+  pub finish : (k : ℕ) → length rest ≤ 0 → run_from all k rest done out at t ≡ ended (Ok tt) all done at t out
   unfolding run_from pick
   finish zero h = refl
   finish (suc k) h = rw (le-ltb 0 (length rest) h) refl
@@ -78,9 +79,9 @@ module _ (all : ℕ) (rest : List ℕ) (done : ℕ) (out : List ℕ) (at : ℕ) 
 -- ---- the same, as the code has a turn: s is what the step gave, left the buffer then, and E how the whole run ends
 module _ (all : ℕ) (rest : List ℕ) (done : ℕ) (out : List ℕ) (at : ℕ) (t : Tables) (E : Ended) where
   pub last : (k : ℕ) → length rest ≤ 0 → run_from all k rest done out at t ≡ E →
-      (◌≡◌ {A = Ran} (record { answer = Took; offset = all; done = done; at = at; tables = t }) E.answer) × (out ≡ E.buffer)
+      (◌≡◌ {A = Ran} (record { answer = Ok tt; offset = all; done = done; at = at; tables = t }) E.answer) × (out ≡ E.buffer)
   last k h i =
-      let q : ended Took all done at t out ≡ E = sym (finish all rest done out at t k h) ∙ i in
+      let q : ended (Ok tt) all done at t out ≡ E = sym (finish all rest done out at t k h) ∙ i in
       (ap (λ (x : Ended). x.answer) q, ap (λ (x : Ended). x.buffer) q)
 
   module _ (f k : ℕ) (m : f ≡ suc k) (h : 0 < length rest) (i : run_from all f rest done out at t ≡ E)

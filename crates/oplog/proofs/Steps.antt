@@ -1,4 +1,5 @@
 -- The ways of a step: each fault, a line without room, a record taken. Assumes nothing.
+use Rattle.std.specs.Prelude.{Err, Ok}
 use mathlib.Core.Path.{◌≡◌, refl, sym}
 use mathlib.Core.List.{List, ◌++◌}
 use Prim.Native.Nat.{ℕ, ◌+◌, ◌-◌, ◌<◌, ◌≤◌}
@@ -18,23 +19,23 @@ use Rattle.operations.specs.declared.Tables.{Tables}
 use Rattle.operations.specs.declared.Outcome.{Outcome}
 use Rattle.operations.proofs.Applied.{apply_few}
 use Rattle.oplog.specs.Step.{reading, writing, text_of, refused_step, step_of, step_out}
-use Rattle.oplog.specs.declared.StepAnswer.TheVariants.{Took, Short, BadMark, BadOp, BadOperand, NoRoom}
+use Rattle.oplog.specs.declared.StepError.TheVariants.{Short, BadMark, BadOp, BadOperand, NoRoom}
 use Rattle.oplog.specs.declared.Stepped.{Stepped}
 
 module _ (log out : List ℕ) (number at : ℕ) (t : Tables) where
-  pub short : read_of log ≡ read.TheVariants.Short → (refused_step at t Short ≡ step_of log number out at t) × (out ≡ step_out log number out at t)
+  pub short : read_of log ≡ read.TheVariants.Short → (refused_step at t (Err Short) ≡ step_of log number out at t) × (out ≡ step_out log number out at t)
   unfolding step_of step_out reading
   short e = (rw e refl, rw e refl)
 
-  pub bad_mark : read_of log ≡ read.TheVariants.BadMark → (refused_step at t BadMark ≡ step_of log number out at t) × (out ≡ step_out log number out at t)
+  pub bad_mark : read_of log ≡ read.TheVariants.BadMark → (refused_step at t (Err BadMark) ≡ step_of log number out at t) × (out ≡ step_out log number out at t)
   unfolding step_of step_out reading
   bad_mark e = (rw e refl, rw e refl)
 
-  pub bad_op : read_of log ≡ read.TheVariants.BadOp → (refused_step at t BadOp ≡ step_of log number out at t) × (out ≡ step_out log number out at t)
+  pub bad_op : read_of log ≡ read.TheVariants.BadOp → (refused_step at t (Err BadOp) ≡ step_of log number out at t) × (out ≡ step_out log number out at t)
   unfolding step_of step_out reading
   bad_op e = (rw e refl, rw e refl)
 
-  pub bad_operand : read_of log ≡ read.TheVariants.BadOperand → (refused_step at t BadOperand ≡ step_of log number out at t) × (out ≡ step_out log number out at t)
+  pub bad_operand : read_of log ≡ read.TheVariants.BadOperand → (refused_step at t (Err BadOperand) ≡ step_of log number out at t) × (out ≡ step_out log number out at t)
   unfolding step_of step_out reading
   bad_operand e = (rw e refl, rw e refl)
 
@@ -51,12 +52,12 @@ module _ (log out : List ℕ) (number at : ℕ) (t : Tables) where
     unfolding step_out reading
     left_is e = rw (er, ← text) e
 
-    crowded : put_of out at line ≡ Crowded → refused_step at t NoRoom ≡ step_of log number out at t
+    crowded : put_of out at line ≡ Crowded → refused_step at t (Err NoRoom) ≡ step_of log number out at t
     unfolding step_of reading writing
     crowded e = rw (er, ← text, e) refl
 
     -- a place past the buffer's end
-    pub past_end : length out < at → (refused_step at t NoRoom ≡ step_of log number out at t) × (out ≡ step_out log number out at t)
+    pub past_end : length out < at → (refused_step at t (Err NoRoom) ≡ step_of log number out at t) × (out ≡ step_out log number out at t)
     past_end h = let r = room.no_room out at line (omega arith) in (crowded (sym r.0), left_is r.1)
 
     -- the tail was lent: w is what its writer answered, left the tail then
@@ -68,10 +69,10 @@ module _ (log out : List ℕ) (number at : ℕ) (t : Tables) where
       back : (from_tail at w ≡ put_of out at line) × (whole ≡ written out at line)
       back = room.lent out at line h ew el
 
-      pub took : (n : ℕ) → w ≡ Upto n → (◌≡◌ {A = Stepped} (record { answer = Took; used = len; at = at + n; tables = d.tables }) (step_of log number out at t)) × (whole ≡ step_out log number out at t)
+      pub took : (n : ℕ) → w ≡ Upto n → (◌≡◌ {A = Stepped} (record { answer = Ok tt; used = len; at = at + n; tables = d.tables }) (step_of log number out at t)) × (whole ≡ step_out log number out at t)
       unfolding step_of reading writing from_tail
       took n e = (rw (er, ← text, ← back.0, e, ed) refl, left_is back.1)
 
-      pub no_room : w ≡ Crowded → (refused_step at t NoRoom ≡ step_of log number out at t) × (whole ≡ step_out log number out at t)
+      pub no_room : w ≡ Crowded → (refused_step at t (Err NoRoom) ≡ step_of log number out at t) × (whole ≡ step_out log number out at t)
       unfolding from_tail
       no_room e = (crowded (rw (← back.0, e) refl), left_is back.1)

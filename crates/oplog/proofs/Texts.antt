@@ -1,4 +1,5 @@
 -- A step beside what its record says, and the turns of a log's text. Assumes nothing.
+use Rattle.std.specs.Prelude.{Err, Ok, Result, ⊤}
 use mathlib.Core.Path.{◌≡◌, refl, sym, ap, ◌∙◌}
 use mathlib.Core.List.{List, [], ◌++◌}
 use Prim.Native.Nat.{ℕ, zero, suc, ◌+◌, ◌<◌, ◌≤◌}
@@ -18,16 +19,16 @@ use Rattle.operations.specs.Apply.{apply_of}
 use Rattle.operations.specs.declared.Tables.{Tables}
 use Rattle.oplog.specs.Step.{step_number, reading, writing, text_of, refused_step, step_of, step_out}
 use Rattle.oplog.specs.Text.{Said, fault, said_of, text_from}
-use Rattle.oplog.specs.declared.StepAnswer.{StepAnswer}
-use Rattle.oplog.specs.declared.StepAnswer.TheVariants.{Took, Short, BadMark, BadOp, BadOperand, NoRoom, BadTable}
+use Rattle.oplog.specs.declared.StepError.TheVariants.{Short, BadMark, BadOp, BadOperand, NoRoom, BadTable}
 use Rattle.oplog.specs.declared.Stepped.{Stepped}
+use Rattle.oplog.specs.declared.StepError.{StepError}
 
 -- ---- a step
 -- the record was taken and its line stands in the buffer; its line has no room; or it has a fault
 pub data StepWays (say : Said) (out : List ℕ) (at : ℕ) (t : Tables) (s : Stepped) (left : List ℕ) : Type 0 where
-  took : s.answer ≡ Took → say.answer ≡ Took → s.used ≡ say.used → s.tables ≡ say.tables → take s.at left ≡ take at out ++ say.text →
+  took : s.answer ≡ Ok tt → say.answer ≡ Ok tt → s.used ≡ say.used → s.tables ≡ say.tables → take s.at left ≡ take at out ++ say.text →
       s.at ≤ length left → StepWays say out at t s left
-  crowded : s ≡ refused_step at t NoRoom → left ≡ out → StepWays say out at t s left
+  crowded : s ≡ refused_step at t (Err NoRoom) → left ≡ out → StepWays say out at t s left
   faulty : s ≡ refused_step at t say.answer → (step_number say.answer ≡ 0 → ⊥) → (step_number say.answer ≡ 26 → ⊥) → left ≡ out → StepWays say out at t s left
 
 module _ (log out : List ℕ) (number at : ℕ) (t : Tables) where
@@ -39,16 +40,16 @@ module _ (log out : List ℕ) (number at : ℕ) (t : Tables) where
     text = text_of number op (apply_of op log t)
 
     abbrev said : Said
-    said = record { answer = Took; used = len; text = text; tables = (apply_of op log t).tables }
+    said = record { answer = Ok tt; used = len; text = text; tables = (apply_of op log t).tables }
 
-    by_writing : (w : Written) → put_of out at text ≡ w → Ways said (writing w (refused_step at t NoRoom) (λ next. record { answer = Took; used = len; at = next; tables = (apply_of op log t).tables })) (written out at text)
+    by_writing : (w : Written) → put_of out at text ≡ w → Ways said (writing w (refused_step at t (Err NoRoom)) (λ next. record { answer = Ok tt; used = len; at = next; tables = (apply_of op log t).tables })) (written out at text)
     unfolding writing
     by_writing (Upto n) e = took refl refl refl refl (upto_stands out at text n e) (rw (written_length out at text) (upto_fits out at text n e).1)
     by_writing Crowded e = crowded refl (no_room_keeps out at text e)
 
   by_reading : (q : read.Read) → Ways
       (reading q (fault t) said)
-      (reading q (refused_step at t) (λ op len. writing (put_of out at (text op len)) (refused_step at t NoRoom) (λ next. record { answer = Took; used = len; at = next; tables = (apply_of op log t).tables })))
+      (reading q (refused_step at t) (λ op len. writing (put_of out at (text op len)) (refused_step at t (Err NoRoom)) (λ next. record { answer = Ok tt; used = len; at = next; tables = (apply_of op log t).tables })))
       (reading q (λ _. out) (λ op len. written out at (text op len)))
   unfolding reading
   by_reading read.TheVariants.Short = faulty refl (λ e. omega arith) (λ e. omega arith) refl
@@ -63,18 +64,18 @@ module _ (log out : List ℕ) (number at : ℕ) (t : Tables) where
 
 -- a record that is taken has three bytes or more
 abbrev Used : List ℕ → Said → Type 0
-Used log s = s.answer ≡ Took → (3 ≤ s.used) × (s.used ≤ length log)
+Used log s = s.answer ≡ Ok tt → (3 ≤ s.used) × (s.used ≤ length log)
 
-number_zero : (a : StepAnswer) → step_number a ≡ 0 → a ≡ Took
-number_zero Took e = refl
-number_zero Short e = absurd (omega arith)
-number_zero BadMark e = absurd (omega arith)
-number_zero BadOp e = absurd (omega arith)
-number_zero BadOperand e = absurd (omega arith)
-number_zero NoRoom e = absurd (omega arith)
-number_zero BadTable e = absurd (omega arith)
+number_zero : (a : Result ⊤ StepError) → step_number a ≡ 0 → a ≡ Ok tt
+number_zero (Ok tt) e = refl
+number_zero (Err Short) e = absurd (omega arith)
+number_zero (Err BadMark) e = absurd (omega arith)
+number_zero (Err BadOp) e = absurd (omega arith)
+number_zero (Err BadOperand) e = absurd (omega arith)
+number_zero (Err NoRoom) e = absurd (omega arith)
+number_zero (Err BadTable) e = absurd (omega arith)
 
-pub took_number : (a : StepAnswer) → a ≡ Took → step_number a ≡ 0
+pub took_number : (a : Result ⊤ StepError) → a ≡ Ok tt → step_number a ≡ 0
 took_number a e = rw e refl
 
 module _ (log : List ℕ) (number : ℕ) (t : Tables) where

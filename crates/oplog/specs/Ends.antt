@@ -1,14 +1,14 @@
 -- A replay into a supply of buffers: the first call is lent the first of them, and each call after it the next.
-use Rattle.std.specs.Prelude.{◌≡◌, List, ◌++◌, ℕ, suc, ◌≤◌, length}
+use Rattle.std.specs.Prelude.{◌≡◌, List, ◌++◌, ℕ, suc, ◌≤◌, length, Err, Ok}
 use Rattle.oplog.specs.Text.{text_at, start_of, replay_text}
 use Rattle.oplog.specs.Replay.{replay_of, Placed, part_of}
-use Rattle.oplog.specs.declared.StepAnswer.TheVariants.{Took, NoRoom}
+use Rattle.oplog.specs.declared.StepError.TheVariants.{NoRoom}
 use Rattle.oplog.specs.declared.replay.Place.{Place}
 
 -- what is printed from a place on into buffer i and those after it: the parts one after the other, each but the last ended by want of room
 pub data PrintsInto (log : List ℕ) (supply : ℕ → List ℕ) : ℕ → Place → List ℕ → Type 0 where
-  last : {i : ℕ} {p : Place} → (replay_of log (supply i) p).part.answer ≡ Took → PrintsInto log supply i p (part_of (replay_of log (supply i) p))
-  next : {i : ℕ} {p : Place} {text : List ℕ} → (replay_of log (supply i) p).part.answer ≡ NoRoom →
+  last : {i : ℕ} {p : Place} → (replay_of log (supply i) p).part.answer ≡ Ok tt → PrintsInto log supply i p (part_of (replay_of log (supply i) p))
+  next : {i : ℕ} {p : Place} {text : List ℕ} → (replay_of log (supply i) p).part.answer ≡ Err NoRoom →
       PrintsInto log supply (suc i) (replay_of log (supply i) p).part.place text → PrintsInto log supply i p (part_of (replay_of log (supply i) p) ++ text)
 
 -- every buffer of a supply has 315 bytes or more, room for any line

@@ -1,5 +1,5 @@
 -- A replay over lent buffers: each call goes on from a place of the log and fills a buffer with the next part of the text.
-use Rattle.std.specs.Prelude.{Bool, ◌&&◌, ◌≡◌, List, ◌++◌, ℕ, ◌+◌, ◌≤◌, length, take, drop, leb, ltb, eqb}
+use Rattle.std.specs.Prelude.{Bool, ◌&&◌, ◌≡◌, List, ◌++◌, ℕ, ◌+◌, ◌≤◌, length, take, drop, leb, ltb, eqb, Err, Ok, Result, ⊤}
 use Rattle.laws.specs.Pick.{pick}
 use Rattle.laws.specs.Refusals as no
 use Rattle.ipc_rules.specs.Sound.{Sound}
@@ -9,11 +9,11 @@ use Rattle.line.specs.Put.{written, put_of}
 use Rattle.oplog.specs.Step.{step_number, writing}
 use Rattle.oplog.specs.Run.{Ended, run_of}
 use Rattle.oplog.specs.Text.{most}
-use Rattle.oplog.specs.declared.StepAnswer.{StepAnswer}
-use Rattle.oplog.specs.declared.StepAnswer.TheVariants.{Took, NoRoom, BadTable}
+use Rattle.oplog.specs.declared.StepError.TheVariants.{NoRoom, BadTable}
 use Rattle.oplog.specs.declared.replay.Place.{Place}
 use Rattle.oplog.specs.declared.replay.Part.{Part}
 use Rattle.oplog.specs.declared.Ran.{Ran}
+use Rattle.oplog.specs.declared.StepError.{StepError}
 
 -- a place fits a log: its offset is inside the log, it has no more records than bytes before it, and its channel table is sound
 abbrev pub place_fits : List ℕ → Place → Bool
@@ -24,7 +24,7 @@ pub record Filled : Type 0 where
   pub part : Part
   pub buffer : List ℕ
 
-abbrev pub filled : StepAnswer → ℕ → Place → List ℕ → Filled
+abbrev pub filled : Result ⊤ StepError → ℕ → Place → List ℕ → Filled
 filled a at p out = record { part = record { answer = a; at = at; place = p }; buffer = out }
 
 -- the last line: 0 says that nothing is left of the log, another number is the fault's
@@ -34,8 +34,8 @@ last_line number offset done = pick (eqb number no.none) (end_of done) (bad_of o
 -- that line after what stands before `at`, or left for another buffer where it has no room
 unfoldable pub last_of : List ℕ → ℕ → ℕ → ℕ → Place → Filled
 last_of out at number offset p =
-    writing (put_of out at (last_line number offset p.done)) (filled NoRoom at p (written out at (last_line number offset p.done))) (λ next.
-    filled Took next p (written out at (last_line number offset p.done)))
+    writing (put_of out at (last_line number offset p.done)) (filled (Err NoRoom) at p (written out at (last_line number offset p.done))) (λ next.
+    filled (Ok tt) next p (written out at (last_line number offset p.done)))
 
 -- the place where a run ended that began at offset `from`
 abbrev pub log_place_of : ℕ → Ran → Place
@@ -45,7 +45,7 @@ log_place_of from r = record { offset = from + r.offset; done = r.done; tables =
 unfoldable pub ending_of : ℕ → Ended → Filled
 ending_of from r =
     pick (eqb (step_number r.answer.answer) no.no_room)
-    (filled NoRoom r.answer.at (log_place_of from r.answer) r.buffer)
+    (filled (Err NoRoom) r.answer.at (log_place_of from r.answer) r.buffer)
     (last_of r.buffer r.answer.at (step_number r.answer.answer) (from + r.answer.offset) (log_place_of from r.answer))
 
 abbrev pub ran_of : List ℕ → List ℕ → Place → Ended
@@ -57,7 +57,7 @@ replay_of log out p =
     pick (place_fits log p)
     (pick (ltb most (length log)) (last_of out 0 no.too_long most p)
     (ending_of p.offset (ran_of log out p)))
-    (filled BadTable 0 p out)
+    (filled (Err BadTable) 0 p out)
 
 -- ---- a whole replay
 -- a place fits a log, as a proposition
@@ -72,6 +72,6 @@ part_of f = take f.part.at f.buffer
 
 -- what is printed from a place on, whatever buffers are lent: the parts one after the other, each but the last ended by want of room
 pub data Prints (log : List ℕ) : Place → List ℕ → Type 0 where
-  last : {p : Place} (out : List ℕ) → (replay_of log out p).part.answer ≡ Took → Prints log p (part_of (replay_of log out p))
-  next : {p : Place} {text : List ℕ} (out : List ℕ) → (replay_of log out p).part.answer ≡ NoRoom → Prints log (replay_of log out p).part.place text →
+  last : {p : Place} (out : List ℕ) → (replay_of log out p).part.answer ≡ Ok tt → Prints log p (part_of (replay_of log out p))
+  next : {p : Place} {text : List ℕ} (out : List ℕ) → (replay_of log out p).part.answer ≡ Err NoRoom → Prints log (replay_of log out p).part.place text →
       Prints log p (part_of (replay_of log out p) ++ text)

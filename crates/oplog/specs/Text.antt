@@ -1,6 +1,6 @@
 -- Document 01, "The operation log and what replay prints": the whole text that a log comes to, the line of each record and then the last
 -- line, `end` and the number of records, or `bad`, the record's offset and the fault's number. No buffer is in it.
-use Rattle.std.specs.Prelude.{List, [], ◌++◌, ℕ, zero, suc, ◌+◌, length, drop, ltb, eqb}
+use Rattle.std.specs.Prelude.{List, [], ◌++◌, ℕ, zero, suc, ◌+◌, length, drop, ltb, eqb, Ok, Result, ⊤}
 use Rattle.laws.specs.Pick.{pick}
 use Rattle.laws.specs.Refusals as no
 use Rattle.line.specs.Line.{end_of, bad_of}
@@ -9,24 +9,23 @@ use Rattle.operations.specs.Apply.{apply_of}
 use Rattle.operations.specs.Channels.{all_fresh}
 use Rattle.operations.specs.declared.Tables.{Tables}
 use Rattle.oplog.specs.Step.{step_number, reading, text_of}
-use Rattle.oplog.specs.declared.StepAnswer.{StepAnswer}
-use Rattle.oplog.specs.declared.StepAnswer.TheVariants.{Took}
 use Rattle.oplog.specs.declared.replay.Place.{Place}
+use Rattle.oplog.specs.declared.StepError.{StepError}
 
 -- what one record comes to: taken, with its length, its line and the tables afterwards, or its fault
 pub record Said : Type 0 where
-  pub answer : StepAnswer
+  pub answer : Result ⊤ StepError
   pub used : ℕ
   pub text : List ℕ
   pub tables : Tables
 
-abbrev pub fault : Tables → StepAnswer → Said
+abbrev pub fault : Tables → Result ⊤ StepError → Said
 fault t a = record { answer = a; used = 0; text = []; tables = t }
 
 unfoldable pub said_of : List ℕ → ℕ → Tables → Said
 said_of log number t =
     reading (read_of log) (fault t) (λ op len.
-    record { answer = Took; used = len; text = text_of number op (apply_of op log t); tables = (apply_of op log t).tables })
+    record { answer = Ok tt; used = len; text = text_of number op (apply_of op log t); tables = (apply_of op log t).tables })
 
 -- the text of what is left of a log from an offset on, after `done` records; k records at most
 unfoldable pub text_from : ℕ → List ℕ → ℕ → ℕ → Tables → List ℕ

@@ -4,10 +4,11 @@ ghost use Rattle.ipc_rules.specs.Sound.{Sound};
 ghost use Rattle.oplog.specs.Run.{run_of};
 ghost use Rattle.oplog.specs.Step.{step_of, step_out};
 
-use crate::{Ran, StepAnswer, Stepped};
+use crate::{Ran, StepError, Stepped};
 use line::Written;
 use logread::Read;
 use operations::Tables;
+use shown::Answer;
 
 // One record of the log, and its line from place `at` of the lent buffer on: the line's writer is lent the tail that is free. A place past the
 // buffer's end has no room.
@@ -18,25 +19,25 @@ pub fn step(log: &[u8], number: u64, out: &mut [u8], at: usize, t: Tables) -> St
 {
     match logread::read_record(log) {
         Read::Short => Stepped {
-            answer: StepAnswer::Short,
+            answer: Err(StepError::Short),
             used: 0,
             at,
             tables: t,
         },
         Read::BadMark => Stepped {
-            answer: StepAnswer::BadMark,
+            answer: Err(StepError::BadMark),
             used: 0,
             at,
             tables: t,
         },
         Read::BadOp => Stepped {
-            answer: StepAnswer::BadOp,
+            answer: Err(StepError::BadOp),
             used: 0,
             at,
             tables: t,
         },
         Read::BadOperand => Stepped {
-            answer: StepAnswer::BadOperand,
+            answer: Err(StepError::BadOperand),
             used: 0,
             at,
             tables: t,
@@ -47,7 +48,7 @@ pub fn step(log: &[u8], number: u64, out: &mut [u8], at: usize, t: Tables) -> St
             let after = done.tables;
             if out.len() < at {
                 return Stepped {
-                    answer: StepAnswer::NoRoom,
+                    answer: Err(StepError::NoRoom),
                     used: 0,
                     at,
                     tables: t,
@@ -55,13 +56,13 @@ pub fn step(log: &[u8], number: u64, out: &mut [u8], at: usize, t: Tables) -> St
             }
             match line::write_line(&mut out[at..], number, op as u64, shown) {
                 Written::Upto(n) => Stepped {
-                    answer: StepAnswer::Took,
+                    answer: Ok(()),
                     used: len,
                     at: at + n,
                     tables: after,
                 },
                 Written::NoRoom => Stepped {
-                    answer: StepAnswer::NoRoom,
+                    answer: Err(StepError::NoRoom),
                     used: 0,
                     at,
                     tables: t,
@@ -102,7 +103,7 @@ pub fn run(log: &[u8], before: u64, out: &mut [u8], tables: Tables) -> Ran
         done += 1;
     }
     Ran {
-        answer: StepAnswer::Took,
+        answer: Ok(()),
         offset: log.len(),
         done,
         at,

@@ -6,39 +6,32 @@
 
 ghost use Rattle.std.specs.Prelude.{◌≡◌};
 ghost use Rattle.oplog.specs.Border.{step_call, step_leaves};
-ghost use Rattle.oplog.specs.Step.{step_number};
+ghost use Rattle.oplog.specs.Step.{step_error_number};
 
-use laws::refusals;
 use operations::Tables;
+use shown::{Answer, Shown};
 
 pub mod inner;
 pub mod replay;
 
 // Whether a step took its record, or the fault that stopped it.
-#[derive(Clone, Copy)]
-pub enum StepAnswer {
-    Took,
-    Short,
-    BadMark,
-    BadOp,
-    BadOperand,
-    NoRoom,
-    BadTable,
+pub type StepAnswer = Result<(), StepError>;
+
+#[derive(Clone, Copy, PartialEq, Eq)]
+pub enum StepError {
+    Short = 24,
+    BadMark = 22,
+    BadOp = 23,
+    BadOperand = 25,
+    NoRoom = 26,
+    BadTable = 27,
 }
 
-impl StepAnswer {
-    pub fn number(self) -> u8
-        ensures { result ≡ step_number self }
-    {
-        match self {
-            StepAnswer::Took => refusals::NONE,
-            StepAnswer::Short => refusals::SHORT,
-            StepAnswer::BadMark => refusals::BAD_MARK,
-            StepAnswer::BadOp => refusals::BAD_OP,
-            StepAnswer::BadOperand => refusals::BAD_OPERAND,
-            StepAnswer::NoRoom => refusals::NO_ROOM,
-            StepAnswer::BadTable => refusals::BAD_TABLE,
-        }
+impl Answer for StepError {
+    ghost number_of = { step_error_number };
+
+    fn shown(self) -> Shown {
+        Shown::new(self as u8, &[])
     }
 }
 
@@ -70,7 +63,7 @@ pub fn step(log: &[u8], number: u64, out: &mut [u8], at: usize, t: Tables) -> St
     let channels = t.channels;
     if !ipc_sound::sound(channels) {
         return Stepped {
-            answer: StepAnswer::BadTable,
+            answer: Err(StepError::BadTable),
             used: 0,
             at,
             tables: t,

@@ -4,11 +4,12 @@ ghost use Rattle.line.specs.Put.{written, put_of};
 ghost use Rattle.oplog.specs.Replay.{last_line, last_of, replay_of};
 ghost use Rattle.oplog.specs.Text.{start_of};
 
-use crate::{StepAnswer, inner};
+use crate::{StepAnswer, StepError, inner};
 use ipc_rules::state::Sizes;
 use laws::refusals;
 use line::Written;
 use operations::Tables;
+use shown::Answer;
 
 // The longest log.
 pub const MOST: usize = 65536;
@@ -67,12 +68,12 @@ fn last(out: &mut [u8], at: usize, number: u8, offset: usize, place: Place) -> P
 {
     match write_last(&mut out[at..], number, offset, place.done) {
         Written::Upto(n) => Part {
-            answer: StepAnswer::Took,
+            answer: Ok(()),
             at: at + n,
             place,
         },
         Written::NoRoom => Part {
-            answer: StepAnswer::NoRoom,
+            answer: Err(StepError::NoRoom),
             at,
             place,
         },
@@ -92,7 +93,7 @@ pub fn replay(log: &[u8], out: &mut [u8], from: Place) -> Part
     let sound = ipc_sound::sound(channels);
     if !((offset <= log.len()) & (done <= offset as u64) & sound) {
         return Part {
-            answer: StepAnswer::BadTable,
+            answer: Err(StepError::BadTable),
             at: 0,
             place: from,
         };
@@ -112,7 +113,7 @@ pub fn replay(log: &[u8], out: &mut [u8], from: Place) -> Part
     };
     if number == refusals::NO_ROOM {
         return Part {
-            answer: StepAnswer::NoRoom,
+            answer: Err(StepError::NoRoom),
             at: ran.at,
             place,
         };

@@ -4,61 +4,32 @@
 use laws::refusals;
 use operations::Tables;
 use oplog::replay;
+use shown::Answer;
+use standard::{Part, Parts};
 use std::io::Input;
 
-// The tables afterwards, and whether the whole text was printed: otherwise a read or a write failed and was told.
+// How far the log has been replayed.
 #[derive(Drop)]
-pub struct Played {
-    pub tables: Tables,
-    pub whole: bool,
+struct Replay {
+    place: replay::Place,
 }
 
-// As much as a part of the text has room for.
-const PART: usize = 65536;
-
-// Prints the log's text by way of the lent buffer. A part that ends for want of room has taken a record or more, and the next goes on
-// from there.
-fn print<P: Print>(printer: &P, log: &[u8], out: &mut [u8]) -> Played {
-    let mut place = replay::start();
-    let mut whole = true;
-    let mut going = true;
-    while going {
-        let before = place.offset;
-        let part = replay::replay(log, out, place);
-        whole = printer.write_all(&out[..part.at]).is_ok();
-        let answer = part.answer;
-        let after = part.place;
-        going = whole & (answer.number() == refusals::NO_ROOM) & (after.offset > before);
-        place = after;
-    }
-    let tables = place.tables;
-    Played { tables, whole }
-}
-
-// Tells that the log did not come, or not all of it.
-fn unread<E: Eprint>(rt: &E) -> Played {
-    standard::tell_unread(rt);
-    let fresh = replay::start();
-    let tables = fresh.tables;
-    Played {
-        tables,
-        whole: false,
+impl Parts for Replay {
+    // A part that ends for want of room has taken a record or more, and the next goes on from there.
+    fn put(&mut self, log: &[u8], out: &mut [u8]) -> Part {
+        let part = replay::replay(log, out, self.place);
+        let full = part.answer.number() == refusals::NO_ROOM;
+        self.place = part.place;
+        Part {
+            len: part.at,
+            next: full.then_some(part.place.offset),
+        }
     }
 }
 
-// Plays standard input.
-pub fn play<R: Input + Print + Eprint>(rt: &R) -> Played {
-    let mut log = standard::room();
-    let mut out = [0u8; PART];
-    let mut reader = rt.reader();
-    let taken = standard::take(&mut reader, &mut log);
-    if !taken.whole {
-        return unread(rt);
-    }
-    let got = taken.got;
-    let played = print(rt, &log[..got], &mut out);
-    if !played.whole {
-        standard::tell_unwritten(rt);
-    }
-    played
+// Plays standard input. The tables afterwards; None where a read or a write failed, which is told.
+pub fn play<R: Input + Print + Eprint>(rt: &R) -> Option<Tables> {
+    let place = replay::start();
+    let played = standard::play(rt, Replay { place })?;
+    Some(played.place.tables)
 }

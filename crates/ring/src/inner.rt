@@ -5,23 +5,27 @@ ghost use Rattle.ring.specs.Ring.{put_in, taken_out, ring_test};
 use crate::Ring;
 
 // One place more is taken, the one at `head`.
-pub fn put_in(mut r: Ring, d: usize) -> Ring
+pub fn put_in(r: Ring, d: usize) -> Ring
     requires { (r.head < d) × (r.len < d) }
     ensures { result ≡ put_in d r }
 {
-    r.head = (r.head + 1) % d;
-    r.len = r.len + 1;
-    r
+    Ring {
+        head: (r.head + 1) % d,
+        len: r.len + 1,
+        ..r
+    }
 }
 
 // The place at `tail` is free again.
-pub fn take_out(mut r: Ring, d: usize) -> Ring
+pub fn take_out(r: Ring, d: usize) -> Ring
     requires { (r.tail < d) × (0 < r.len) }
     ensures { result ≡ taken_out d r }
 {
-    r.tail = (r.tail + 1) % d;
-    r.len = r.len - 1;
-    r
+    Ring {
+        tail: (r.tail + 1) % d,
+        len: r.len - 1,
+        ..r
+    }
 }
 
 // Whether it is a ring of depth d.
@@ -29,14 +33,5 @@ pub fn is_ring(r: Ring, d: usize) -> bool
     requires { d + d < 2 ^ 64 }
     ensures { result ≡ ring_test d r }
 {
-    if r.len > d {
-        return false;
-    }
-    if r.head >= d {
-        return false;
-    }
-    if r.tail >= d {
-        return false;
-    }
-    r.head == (r.tail + r.len) % d
+    r.len <= d && r.head < d && r.tail < d && r.head == (r.tail + r.len) % d
 }

@@ -7,16 +7,25 @@ pub mod inner;
 ghost use Rattle.std.specs.Prelude.{◌≡◌};
 ghost use Rattle.ring.specs.Ring.{is_fresh_ring};
 
-#[derive(Clone, Copy)]
+#[derive(Clone, Copy, PartialEq, Eq)]
 pub struct Ring {
     pub head: usize,
     pub tail: usize,
     pub len: usize,
 }
 
+impl Ring {
+    // Nothing is in it.
+    pub const FRESH: Ring = Ring {
+        head: 0,
+        tail: 0,
+        len: 0,
+    };
+}
+
 // Whether a ring is as when fresh.
 pub fn is_fresh(r: Ring) -> bool
     ensures { result ≡ is_fresh_ring r }
 {
-    (r.head == 0) & (r.tail == 0) & (r.len == 0)
+    r == Ring::FRESH
 }

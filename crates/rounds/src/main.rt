@@ -3,7 +3,6 @@
 #![tactic(auto)]
 
 use cap::CapId;
-use ipc_rules::answers::RecvAnswer;
 use ipc_rules::state::{Payload, Table};
 use std::io::Read;
 
@@ -12,85 +11,65 @@ const ROUNDS: u64 = 1000000;
 // The sender's.
 const ROW: usize = 3;
 
+// The ids of the first channel that a fresh table makes.
+const SEND: CapId = CapId { raw: 65536 };
+
+const RECV: CapId = CapId { raw: 65537 };
+
 // A message in and out on a table that is known to be sound.
 fn interior(n: u64) -> u64 {
-    let made = ipc::new(32, 64, 8);
-    let fresh = made.table;
-    let creation = ipc_life::inner::create(fresh, false);
-    let mut t = creation.table;
-    let send = CapId::from_raw(65536);
-    let recv = CapId::from_raw(65537);
+    let mut t = ipc_life::inner::create(ipc::new(32, 64, 8).table, false).table;
     let mut sum: u64 = 0;
     for i in 0..n {
-        let sent = ipc_queue::inner::send(t, send, Payload { tag: 1, a: i, b: i }, ROW);
-        let between = sent.table;
-        let got = ipc_queue::inner::try_recv(between, recv);
-        let answer = got.answer;
-        if let RecvAnswer::Received(m) = answer {
+        let sent = ipc_queue::inner::send(t, SEND, Payload { tag: 1, a: i, b: i }, ROW);
+        let got = ipc_queue::inner::try_recv(sent.table, RECV);
+        if let Ok(m) = got.answer {
             sum = sum.wrapping_add(m.a);
         }
-        let after = got.table;
-        t = after;
+        t = got.table;
     }
     sum
 }
 
 // The same at the border, where each call tests the table first.
 fn border(n: u64) -> u64 {
-    let made = ipc::new(32, 64, 8);
-    let fresh = made.table;
-    let creation = ipc::create_channel(fresh);
-    let mut t = creation.table;
-    let send = CapId::from_raw(65536);
-    let recv = CapId::from_raw(65537);
+    let mut t = ipc::create_channel(ipc::new(32, 64, 8).table).table;
     let mut sum: u64 = 0;
     for i in 0..n {
-        let sent = ipc::send(t, send, Payload { tag: 1, a: i, b: i }, ROW);
-        let between = sent.table;
-        let got = ipc::try_recv(between, recv);
-        let answer = got.answer;
-        if let RecvAnswer::Received(m) = answer {
+        let sent = ipc::send(t, SEND, Payload { tag: 1, a: i, b: i }, ROW);
+        let got = ipc::try_recv(sent.table, RECV);
+        if let Ok(m) = got.answer {
             sum = sum.wrapping_add(m.a);
         }
-        let after = got.table;
-        t = after;
+        t = got.table;
     }
     sum
 }
 
 // The soundness test alone, on a table whose count of refusals changes from turn to turn.
 fn tested(n: u64) -> u64 {
-    let made = ipc::new(32, 64, 8);
-    let fresh = made.table;
-    let creation = ipc::create_channel(fresh);
-    let mut t = creation.table;
+    let mut t = ipc::create_channel(ipc::new(32, 64, 8).table).table;
     let mut sum: u64 = 0;
     for i in 0..n {
         if ipc_sound::sound(t) {
             sum = sum.wrapping_add(1);
         }
-        let next = (i % 65535) as u16;
-        t.counters.next_gen = next;
+        t.counters.next_gen = (i % 65535) as u16;
     }
     sum
 }
 
-fn run(loop_kind: u8) -> u64 {
-    if loop_kind == b'i' {
-        return interior(ROUNDS);
+fn run(kind: u8) -> u64 {
+    match kind {
+        b'i' => interior(ROUNDS),
+        b'b' => border(ROUNDS),
+        b's' => tested(ROUNDS),
+        _ => 0,
     }
-    if loop_kind == b'b' {
-        return border(ROUNDS);
-    }
-    if loop_kind == b's' {
-        return tested(ROUNDS);
-    }
-    0
 }
 
 fn main(rt: HostRuntime) {
-    let mut first = [0u8; 1];
+    let mut first = [0];
     let _ = rt.stdin().read(&mut first);
-    let _ = rt.print(run(first[0]));
-    let _ = rt.write_all(b"\n");
+    let _ = rt.println(run(first[0]));
 }

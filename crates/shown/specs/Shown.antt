@@ -1,6 +1,6 @@
 -- Document 01, "The operation log": what a line shows of an answer, its number and its values, in the twelve places that the code has for
 -- them.
-use Rattle.std.specs.Prelude.{List, [], ◌∷◌, ℕ, zero, suc, ◌+◌, leb, length, set}
+use Rattle.std.specs.Prelude.{List, [], ◌∷◌, ℕ, zero, suc, ◌+◌, leb, length, set, Result, Ok, Err}
 use Rattle.laws.specs.Pick.{pick}
 use Rattle.shown.specs.declared.Shown.{Shown}
 
@@ -22,3 +22,8 @@ pushed s x = pick (leb 12 s.count) s (record { number = s.number; values = set s
 unfoldable pub pushed_all : Shown → List ℕ → Shown
 pushed_all s [] = s
 pushed_all s (v ∷ vs) = pushed_all (pushed s v) vs
+
+-- what `done` says of what a call has done, or `refused` of why it has not
+abbrev pub of_either : {T E A : Type 0} → (T → A) → (E → A) → Result T E → A
+of_either done refused (Ok x) = done x
+of_either done refused (Err e) = refused e

@@ -1,19 +1,37 @@
-// Standard input read whole, and what a program tells on standard error. A program tells a read or a write that fails there and not by its
-// exit status, and what was to follow is not printed.
+// Standard input read whole, and a text printed of it, part after part. A program tells a read or a write that fails on standard error and
+// not by its exit status, and what was to follow is not printed.
 #![tactic(auto)]
 
 ghost use Rattle.std.specs.Prelude.{◌≡◌, ◌≤◌, length, take};
+ghost use Rattle.standard.specs.Taken.{got_of};
 
-use std::io::{Eprint, Read};
+use std::io;
+use std::io::{Eprint, Input, Print, Read};
 
 // One byte more than the longest log or script, so that a longer one shows.
 const ROOM: usize = 65537;
 
-// How many bytes came, and whether no read failed.
+// As much as a part of a text has room for.
+const PART: usize = 65536;
+
+// A read failed after so many bytes.
 #[derive(Clone, Copy)]
-pub struct Taken {
+pub struct Broken {
     pub got: usize,
-    pub whole: bool,
+}
+
+// How long a part of a text is, and where in the input the next goes on, if one follows.
+#[derive(Clone, Copy)]
+pub struct Part {
+    pub len: usize,
+    pub next: Option<usize>,
+}
+
+// What makes a text of an input, part after part.
+pub trait Parts {
+    // Puts the next part at the start of the lent buffer.
+    fn put(&mut self, input: &[u8], out: &mut [u8]) -> Part
+        ensures { result.len ≤ length out.new };
 }
 
 pub fn room() -> [u8; ROOM]
@@ -22,21 +40,49 @@ pub fn room() -> [u8; ROOM]
     [0; ROOM]
 }
 
-// Reads until the buffer is full, the input ends or a read fails. The library's read_exact does not tell how many bytes came before the
-// input ended.
-pub fn take<R: Read>(reader: &mut R, input: &mut [u8]) -> Taken
-    ensures in_bounds { result.got ≤ length input.new }
-    ensures prefix { result.got ≡ length (take result.got input.new) }
+// Reads until the buffer is full, the input ends or a read fails, and answers how many bytes came. The library's read_exact does not tell
+// that of an input that ends before.
+pub fn take<R: Read>(reader: &mut R, input: &mut [u8]) -> Result<usize, Broken>
+    ensures in_bounds { got_of result ≤ length input.new }
+    ensures prefix { got_of result ≡ length (take (got_of result) input.new) }
 {
     let mut got = 0;
     while got < input.len() {
         match reader.read(&mut input[got..]) {
-            Ok(0) => return Taken { got, whole: true },
+            Ok(0) => break,
             Ok(more) => got += more,
-            Err(_) => return Taken { got, whole: false },
+            Err(_) => return Err(Broken { got }),
         }
     }
-    Taken { got, whole: true }
+    Ok(got)
+}
+
+// Prints the text by way of the lent buffer. It ends where a part took nothing of the input.
+fn print<P: Print, T: Parts>(to: &P, text: &mut T, input: &[u8], out: &mut [u8]) -> io::Result<()> {
+    let mut offset = 0;
+    loop {
+        let part = text.put(input, out);
+        to.write_all(&out[..part.len])?;
+        match part.next {
+            Some(next) if next > offset => offset = next,
+            _ => return Ok(()),
+        }
+    }
+}
+
+// Prints the text of standard input, and hands on what made it; None where a read or a write failed, which is told.
+pub fn play<R: Input + Print + Eprint, T: Parts + Drop>(rt: &R, mut text: T) -> Option<T> {
+    let mut input = room();
+    let Ok(got) = take(&mut rt.reader(), &mut input) else {
+        tell_unread(rt);
+        return None;
+    };
+    let mut out = [0; PART];
+    if print(rt, &mut text, &input[..got], &mut out).is_err() {
+        tell_unwritten(rt);
+        return None;
+    }
+    Some(text)
 }
 
 // Tells that the input did not come, or not all of it.

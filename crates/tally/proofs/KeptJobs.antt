@@ -1,4 +1,5 @@
 -- Transfer, and the dispatcher's opening and closing, keep it. Assumes nothing.
+use Rattle.std.specs.Prelude.{Result, ⊤}
 use mathlib.Core.Path.{◌≡◌, refl, sym, ap, ◌∙◌}
 use mathlib.Core.Bool.{true, ◌||◌}
 use mathlib.Core.List.{List, []}
@@ -17,7 +18,6 @@ use Rattle.capslots.specs.Rows.{names_id, forget_in, forget_row, forgotten_of}
 use Rattle.capslots.specs.Transfer.{transfer_of}
 use Rattle.capslots.specs.declared.Row.{Row}
 use Rattle.capslots.specs.declared.Table.{Table as Rows}
-use Rattle.capslots.specs.declared.moves.Transferred.{Transferred as Transferring}
 use Rattle.capslots.proofs.Places.{new_slot, other_slot, shape_slot}
 use Rattle.capslots.proofs.Forgotten.{forgotten_shape}
 use Rattle.capslots.proofs.Ways.{transfer_ways}
@@ -34,6 +34,8 @@ use Rattle.tally.specs.Runs.{CameFrom}
 use Rattle.tally.proofs.Sums.{sum_map, sum_same}
 use Rattle.tally.proofs.Tallied.{Tallied, held_vacant}
 use Rattle.tally.proofs.KeptSteps.{transfer_sum}
+use Rattle.capslots.specs.declared.answers.TransferError.{TransferError}
+use Rattle.shown.specs.declared.Answered.{Answered}
 
 module _ {t : Channels} {rows : Rows} {l : List Channel} (x : Tallied t rows l) where
   -- ---- other rows in which each id stood in some slot, and as many slots hold each send end
@@ -83,7 +85,7 @@ module _ {t : Channels} {rows : Rows} {l : List Channel} (x : Tallied t rows l) 
   -- ---- transfer
   transfer_shape : (r s r' s' : ℕ) → Shape (transfer_of rows r s r' s').table
   transfer_shape r s r' s' =
-      transfer_ways (λ (o : Transferring). Shape o.table) rows r s r' s' (λ _ _. x.shape) (λ _ _. x.shape)
+      transfer_ways (λ (o : Answered (Result ⊤ TransferError) Rows). Shape o.table) rows r s r' s' (λ _ _. x.shape) (λ _ _. x.shape)
       (λ w _. shape_slot (with_slot rows r s vacant_slot) (shape_slot rows x.shape r s vacant_slot w.from_row) r' s' _ w.to_row)
 
   -- what was put in slot s of row r of rows is that, or stood before
@@ -96,7 +98,7 @@ module _ {t : Channels} {rows : Rows} {l : List Channel} (x : Tallied t rows l) 
 
   transfer_from : (r s r' s' q p : ℕ) (d : CapId) → slot_in (transfer_of rows r s r' s').table q p ≡ holding d → CameFrom l d
   transfer_from r s r' s' q p d =
-      transfer_ways (λ (o : Transferring). slot_in o.table q p ≡ holding d → CameFrom l d) rows r s r' s' (λ _ _. x.origin q p d) (λ _ _. x.origin q p d)
+      transfer_ways (λ (o : Answered (Result ⊤ TransferError) Rows). slot_in o.table q p ≡ holding d → CameFrom l d) rows r s r' s' (λ _ _. x.origin q p d) (λ _ _. x.origin q p d)
       (λ w _.
       let c = (slot_in rows r s).id in
       let had : slot_in rows r s ≡ holding c = present (slot_in rows r s) w.held in

@@ -1,4 +1,5 @@
 -- Opening and closing a job keep it, and so do the jobs' messages. Assumes nothing.
+use Rattle.std.specs.Prelude.{Err, Ok, Result}
 use mathlib.Core.Path.{◌≡◌, refl, sym, ap, ◌∙◌}
 use mathlib.Core.Bool.{true}
 use mathlib.Core.List.{List, ◌∷◌}
@@ -30,7 +31,7 @@ use Rattle.dispatcher_rules.specs.declared.state.Job.{Job}
 use Rattle.dispatcher_rules.specs.declared.state.Tag.{Tag}
 use Rattle.dispatcher_rules.specs.declared.answers.JobOpening.{JobOpening}
 use Rattle.dispatcher_rules.specs.declared.answers.JobClosing.{JobClosing}
-use Rattle.dispatcher_rules.specs.declared.answers.OpenAnswer as toOpen
+use Rattle.dispatcher_rules.specs.declared.answers.OpenError.TheVariants as toOpen
 use Rattle.dispatcher_rules.specs.Bound.{Bound}
 use Rattle.dispatcher_rules.proofs.Ways.{open_ways, close_ways}
 use Rattle.isolation.proofs.Ended.{channel_ended}
@@ -41,6 +42,8 @@ use Rattle.tally.proofs.Tallied.{Tallied}
 use Rattle.tally.proofs.KeptChannels.{create_keeps, revoke_keeps}
 use Rattle.tally.proofs.KeptSteps.{put_keeps}
 use Rattle.tally.proofs.KeptJobs.{forget_keeps}
+use Rattle.dispatcher_rules.specs.declared.answers.OpenedJob.{OpenedJob}
+use Rattle.dispatcher_rules.specs.declared.answers.OpenError.{OpenError}
 
 -- the ids of each open job are a creation's, and the bindings keep making's rules
 pub record Places (d : Dispatcher) (l : List Channel) : Type 0 where
@@ -48,16 +51,16 @@ pub record Places (d : Dispatcher) (l : List Channel) : Type 0 where
   pub full : length d.jobs ≡ 16
   pub made : (p : ℕ) → (job_at d p).«open» ≡ true → Made (job_at d p).ends l
 
-no_opened : (a : toOpen.OpenAnswer) (l : List Channel) → (open_number a ≡ 0 → ⊥) → if_opened a l ≡ l
+no_opened : (a : Result OpenedJob OpenError) (l : List Channel) → (open_number a ≡ 0 → ⊥) → if_opened a l ≡ l
 unfolding if_opened
-no_opened (toOpen.TheVariants.Opened j) l n = absurd (n refl)
-no_opened toOpen.TheVariants.NoVariant l n = refl
-no_opened toOpen.TheVariants.BadRow l n = refl
-no_opened toOpen.TheVariants.JobsFull l n = refl
-no_opened toOpen.TheVariants.NoMailbox l n = refl
-no_opened toOpen.TheVariants.NoEndpoint l n = refl
-no_opened toOpen.TheVariants.BadSlot l n = refl
-no_opened toOpen.TheVariants.BadTable l n = refl
+no_opened (Ok j) l n = absurd (n refl)
+no_opened (Err toOpen.NoVariant) l n = refl
+no_opened (Err toOpen.BadRow) l n = refl
+no_opened (Err toOpen.JobsFull) l n = refl
+no_opened (Err toOpen.NoMailbox) l n = refl
+no_opened (Err toOpen.NoEndpoint) l n = refl
+no_opened (Err toOpen.BadSlot) l n = refl
+no_opened (Err toOpen.BadTable) l n = refl
 
 module _ (t : Channels) (rows : Rows) (d : Dispatcher) (l : List Channel) (x : Tallied t rows l) (y : Places d l) where
   unfoldable pub Keeps : JobOpening → Type 0

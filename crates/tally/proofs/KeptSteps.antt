@@ -1,4 +1,5 @@
 -- Give, leave, spawn and transfer keep it. Assumes nothing.
+use Rattle.std.specs.Prelude.{Err, Ok, Result, ⊤}
 use mathlib.Core.Path.{◌≡◌, refl, sym, ap, ◌∙◌}
 use mathlib.Core.Bool.{true, false}
 use mathlib.Core.List.{List, [], ◌∷◌}
@@ -22,18 +23,15 @@ use Rattle.capslots.specs.Transfer.{transfer_of}
 use Rattle.capslots.specs.declared.Row.{Row}
 use Rattle.capslots.specs.declared.Table.{Table as Rows}
 use Rattle.capslots.specs.declared.Drained.{Drained}
-use Rattle.capslots.specs.declared.Installed.{Installed as Installing}
-use Rattle.capslots.specs.declared.moves.Transferred.{Transferred as Transferring}
-use Rattle.capslots.specs.declared.answers.InstallAnswer.TheVariants.{Installed, BadSlot}
+use Rattle.capslots.specs.declared.answers.InstallError.TheVariants.{BadSlot}
 use Rattle.capslots.proofs.Places.{new_row, other_row, shape_row, new_slot, other_slot, shape_slot}
 use Rattle.capslots.proofs.Ways.{install_ways, drain_ways, transfer_ways}
 use Rattle.ipc_rules.specs.Holds.{registered, registered_all, release_of}
 use Rattle.ipc_rules.specs.Views.{held_by, held_in}
 use Rattle.ipc_rules.specs.declared.state.Channel.{Channel}
 use Rattle.ipc_rules.specs.declared.state.Table.{Table as Channels}
+use Rattle.joined.specs.declared.answers.GiveError.{GiveError}
 use Rattle.joined.specs.Steps.{vacated, spawn_of, leave_of, give_of}
-use Rattle.joined.specs.declared.answers.SpawnAnswer.TheVariants.{Spawned}
-use Rattle.joined.specs.declared.answers.GiveAnswer.TheVariants.{Given}
 use Rattle.joined.specs.declared.answers.Spawning.{Spawning}
 use Rattle.joined.specs.declared.answers.Leaving.{Leaving}
 use Rattle.joined.specs.declared.answers.Giving.{Giving}
@@ -44,6 +42,9 @@ use Rattle.tally.specs.Runs.{CameFrom}
 use Rattle.tally.proofs.Sums.{sum_row, sum_slot}
 use Rattle.tally.proofs.Tallied.{Tallied, held_vacant, list_sum}
 use Rattle.tally.proofs.KeptRows.{kept_registered, kept_released}
+use Rattle.capslots.specs.declared.answers.InstallError.{InstallError}
+use Rattle.shown.specs.declared.Answered.{Answered}
+use Rattle.capslots.specs.declared.answers.TransferError.{TransferError}
 
 -- ---- an id put in a vacant slot and registered
 module _ {t : Channels} {rows : Rows} {l : List Channel} (x : Tallied t rows l) where
@@ -58,12 +59,12 @@ module _ {t : Channels} {rows : Rows} {l : List Channel} (x : Tallied t rows l) 
       (omega arith)
       (λ k. let u = sum_slot (held_by t k) rows x.shape r s (holding c) a b in let v = held_vacant t k (slot_in rows r s) vacant in omega arith)
 
-  pub give_keeps : (r s : ℕ) (c : CapId) → ((give_of t rows r s c).answer ≡ Given → CameFrom l c) → Tallied (give_of t rows r s c).channels (give_of t rows r s c).rows l
+  pub give_keeps : (r s : ℕ) (c : CapId) → ((give_of t rows r s c).answer ≡ Ok tt → CameFrom l c) → Tallied (give_of t rows r s c).channels (give_of t rows r s c).rows l
   give_keeps r s c =
-      give_ways t rows (λ (o : Giving). (o.answer ≡ Given → CameFrom l c) → Tallied o.channels o.rows l) r s c (λ _ _ _. x)
-      (install_ways (λ (o : Installing). o.answer ≡ Installed → (Given ≡ Given → CameFrom l c) → Tallied (registered t (holding c)) o.table l) rows r s c (λ e. absurd (bad e)) (λ a b v _ from. put_keeps r s c a b v (from refl)))
+      give_ways t rows (λ (o : Giving). (o.answer ≡ Ok tt → CameFrom l c) → Tallied o.channels o.rows l) r s c (λ _ _ _. x)
+      (install_ways (λ (o : Answered (Result ⊤ InstallError) Rows). o.answer ≡ Ok tt → (◌≡◌ {A = Result ⊤ GiveError} (Ok tt) (Ok tt) → CameFrom l c) → Tallied (registered t (holding c)) o.table l) rows r s c (λ e. absurd (bad e)) (λ a b v _ from. put_keeps r s c a b v (from refl)))
     where
-      bad : BadSlot ≡ Installed → ⊥
+      bad : ◌≡◌ {A = Result ⊤ InstallError} (Err BadSlot) (Ok tt) → ⊥
       bad e = let z : ◌≡◌ {A = ℕ} 0 1 = cc in omega arith
 
   -- ---- a row let go
@@ -118,7 +119,7 @@ module _ {t : Channels} {rows : Rows} {l : List Channel} (x : Tallied t rows l) 
 
 -- ---- spawn: the row let go, filled anew and registered
 module _ {t : Channels} {rows : Rows} {l : List Channel} (x : Tallied t rows l) (r : ℕ) (words : List ℕ)
-    (from : (spawn_of t rows r words).answer ≡ Spawned → (i : ℕ) (c : CapId) → i < 4 → slot_at words i ≡ holding c → CameFrom l c) where
+    (from : (spawn_of t rows r words).answer ≡ Ok tt → (i : ℕ) (c : CapId) → i < 4 → slot_at words i ≡ holding c → CameFrom l c) where
   seeded : words_read words ≡ true → r < 54 → (seed_of (vacated t rows r).rows r words).table ≡ with_row (with_row rows r empty_row) r (row_of words)
   unfolding seed_of drain_of pick
   seeded w a = rw (w, lt-leb 54 r a)
@@ -128,7 +129,7 @@ module _ {t : Channels} {rows : Rows} {l : List Channel} (x : Tallied t rows l) 
   gone_rows a = rw (lt-leb 54 r a)
 
   -- a list that reads, and a row that is there
-  succeeds : words_read words ≡ true → r < 54 → (spawn_of t rows r words).answer ≡ Spawned
+  succeeds : words_read words ≡ true → r < 54 → (spawn_of t rows r words).answer ≡ Ok tt
   unfolding spawn_of pick
   succeeds w a = rw (w, lt-leb 54 r a)
 
@@ -147,7 +148,7 @@ module _ {t : Channels} {rows : Rows} {l : List Channel} (x : Tallied t rows l) 
 pub transfer_sum : (f : Slot → ℕ) → ((y : Slot) → y.present ≡ false → f y ≡ 0) → (rows : Rows) → Shape rows → (r s r' s' : ℕ) →
     over_slots f (transfer_of rows r s r' s').table ≡ over_slots f rows
 transfer_sum f none rows shape r s r' s' =
-    transfer_ways (λ (o : Transferring). over_slots f o.table ≡ over_slots f rows) rows r s r' s' (λ _ _. refl) (λ _ _. refl)
+    transfer_ways (λ (o : Answered (Result ⊤ TransferError) Rows). over_slots f o.table ≡ over_slots f rows) rows r s r' s' (λ _ _. refl) (λ _ _. refl)
     (λ w free.
     let one = with_slot rows r s vacant_slot in
     let c = (slot_in rows r s).id in

@@ -1,4 +1,5 @@
 -- The theorem: the holds of every live channel are the slots that hold its send id. Assumes nothing.
+use Rattle.std.specs.Prelude.{Err, Ok, Result}
 use mathlib.Core.Path.{◌≡◌, refl, sym, ap, ◌∙◌}
 use mathlib.Core.Bool.{true, false}
 use mathlib.Core.List.{List, [], ◌∷◌}
@@ -44,15 +45,14 @@ use Rattle.ipc_rules.proofs.Openings.{Opened, opened_of, opens_live, hold_opens}
 use Rattle.ipc_rules.proofs.OtherOpenings.{hold_is}
 use Rattle.ipc_rules.proofs.Fresh.{in_range_of, fresh_sound}
 use Rattle.ipc_rules.specs.Create.{create_of}
-use Rattle.ipc_rules.specs.declared.answers.CreateAnswer.{CreateAnswer}
-use Rattle.ipc_rules.specs.declared.answers.CreateAnswer as toCreate
+use Rattle.ipc_rules.specs.declared.answers.CreateError.TheVariants as toCreate
 use Rattle.dispatcher_rules.specs.State.{no_variant}
 use Rattle.dispatcher_rules.specs.Bound.{Bound}
 use Rattle.dispatcher_rules.specs.Make.{make_of}
 use Rattle.dispatcher_rules.specs.Open.{open_job_of}
 use Rattle.dispatcher_rules.specs.Slots.{slot_send_of, slot_recv_of, slot_park_of}
 use Rattle.dispatcher_rules.specs.declared.state.Variant.{Variant}
-use Rattle.dispatcher_rules.specs.declared.answers.OpenAnswer as toOpen
+use Rattle.dispatcher_rules.specs.declared.answers.OpenError.TheVariants as toOpen
 use Rattle.dispatcher_rules.specs.declared.answers.Making.{Making}
 use Rattle.dispatcher_rules.specs.declared.answers.SlotSending.{SlotSending}
 use Rattle.dispatcher_rules.specs.declared.answers.SlotReceiving.{SlotReceiving}
@@ -70,6 +70,9 @@ use Rattle.tally.proofs.KeptChannels.{kept_still, create_keeps, revoke_keeps}
 use Rattle.tally.proofs.KeptSteps.{give_keeps, leave_keeps, spawn_keeps, transfer_sum}
 use Rattle.tally.proofs.KeptJobs.{transfer_keeps}
 use Rattle.tally.proofs.KeptPlaces.{Places, Keeps, open_keeps, close_keeps}
+use Rattle.ipc_rules.specs.declared.answers.CreateError.{CreateError}
+use Rattle.dispatcher_rules.specs.declared.answers.OpenedJob.{OpenedJob}
+use Rattle.dispatcher_rules.specs.declared.answers.OpenError.{OpenError}
 
 -- ---- transfer, for every id
 pub transfer_keeps_all : TransferKeeps
@@ -122,12 +125,12 @@ module _ (b : Books) (x : Tallied b.channels b.rows b.created) (y : Places b.dis
   placed n vs = record { bound = bound n vs; full = sixteen n vs; made = λ p o. absurd (not_both _ o (made_closed n vs p)) }
 
   -- a creation leaves the jobs
-  more : (a : CreateAnswer) → Places b.dispatcher (if_created a b.created)
+  more : (a : Result Channel CreateError) → Places b.dispatcher (if_created a b.created)
   unfolding if_created
-  more (toCreate.TheVariants.Created ids) = record { bound = y.bound; full = y.full; made = λ p o. before (y.made p o) }
-  more toCreate.TheVariants.NoMailbox = y
-  more toCreate.TheVariants.NoEndpoint = y
-  more toCreate.TheVariants.BadTable = y
+  more (Ok ids) = record { bound = y.bound; full = y.full; made = λ p o. before (y.made p o) }
+  more (Err toCreate.NoMailbox) = y
+  more (Err toCreate.NoEndpoint) = y
+  more (Err toCreate.BadTable) = y
 
   step : (s : Step) → PutsCreated b s → length (after b s).created ≤ 65535 → Good (after b s)
   unfolding after PutsCreated Keeps
@@ -190,23 +193,23 @@ begins z i =
     )
 
 -- no step takes a creation back
-longer_created : (a : CreateAnswer) (l : List Channel) → length l ≤ length (if_created a l)
+longer_created : (a : Result Channel CreateError) (l : List Channel) → length l ≤ length (if_created a l)
 unfolding if_created
-longer_created (toCreate.TheVariants.Created ids) l = omega arith
-longer_created toCreate.TheVariants.NoMailbox l = omega arith
-longer_created toCreate.TheVariants.NoEndpoint l = omega arith
-longer_created toCreate.TheVariants.BadTable l = omega arith
+longer_created (Ok ids) l = omega arith
+longer_created (Err toCreate.NoMailbox) l = omega arith
+longer_created (Err toCreate.NoEndpoint) l = omega arith
+longer_created (Err toCreate.BadTable) l = omega arith
 
-longer_opened : (a : toOpen.OpenAnswer) (l : List Channel) → length l ≤ length (if_opened a l)
+longer_opened : (a : Result OpenedJob OpenError) (l : List Channel) → length l ≤ length (if_opened a l)
 unfolding if_opened
-longer_opened (toOpen.TheVariants.Opened j) l = omega arith
-longer_opened toOpen.TheVariants.NoVariant l = omega arith
-longer_opened toOpen.TheVariants.BadRow l = omega arith
-longer_opened toOpen.TheVariants.JobsFull l = omega arith
-longer_opened toOpen.TheVariants.NoMailbox l = omega arith
-longer_opened toOpen.TheVariants.NoEndpoint l = omega arith
-longer_opened toOpen.TheVariants.BadSlot l = omega arith
-longer_opened toOpen.TheVariants.BadTable l = omega arith
+longer_opened (Ok j) l = omega arith
+longer_opened (Err toOpen.NoVariant) l = omega arith
+longer_opened (Err toOpen.BadRow) l = omega arith
+longer_opened (Err toOpen.JobsFull) l = omega arith
+longer_opened (Err toOpen.NoMailbox) l = omega arith
+longer_opened (Err toOpen.NoEndpoint) l = omega arith
+longer_opened (Err toOpen.BadSlot) l = omega arith
+longer_opened (Err toOpen.BadTable) l = omega arith
 
 longer : (b : Books) (s : Step) → length b.created ≤ length (after b s).created
 unfolding after

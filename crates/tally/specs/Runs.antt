@@ -1,7 +1,7 @@
 -- Request No. 7: "From fresh tables, with only the joined steps, creation, revocation, sending, receiving, parking, clearing and transfer, with
 -- at most 65,535 successful creations, and where each endpoint id put in a slot came from an earlier creation". Beside these the calls of a
 -- job dispatcher that is made in the run; an opening that succeeds is a creation.
-use Rattle.std.specs.Prelude.{◌≡◌, Bool, true, List, [], ◌∷◌, ℕ, ◌<◌, replicate}
+use Rattle.std.specs.Prelude.{◌≡◌, Bool, true, List, [], ◌∷◌, ℕ, ◌<◌, replicate, Err, Ok, Result}
 use Rattle.cap.specs.Id.{class_of}
 use Rattle.cap.specs.Slot.{holding}
 use Rattle.cap.specs.Word.{slot_at}
@@ -20,10 +20,8 @@ use Rattle.ipc_rules.specs.declared.state.Payload.{Payload}
 use Rattle.ipc_rules.specs.declared.state.Sizes.{Sizes}
 use Rattle.ipc_rules.specs.declared.state.TaskId.{TaskId}
 use Rattle.ipc_rules.specs.declared.state.Table.{Table as Channels}
-use Rattle.ipc_rules.specs.declared.answers.CreateAnswer as toCreate
+use Rattle.ipc_rules.specs.declared.answers.CreateError.TheVariants as toCreate
 use Rattle.joined.specs.Steps.{spawn_of, leave_of, give_of}
-use Rattle.joined.specs.declared.answers.SpawnAnswer.TheVariants.{Spawned}
-use Rattle.joined.specs.declared.answers.GiveAnswer.TheVariants.{Given}
 use Rattle.dispatcher_rules.specs.State.{no_variant}
 use Rattle.dispatcher_rules.specs.Make.{make_of}
 use Rattle.dispatcher_rules.specs.Open.{open_job_of}
@@ -32,7 +30,10 @@ use Rattle.dispatcher_rules.specs.Slots.{slot_send_of, slot_recv_of, slot_park_o
 use Rattle.dispatcher_rules.specs.declared.state.Dispatcher.{Dispatcher}
 use Rattle.dispatcher_rules.specs.declared.state.Tag.{Tag}
 use Rattle.dispatcher_rules.specs.declared.state.Variant.{Variant}
-use Rattle.dispatcher_rules.specs.declared.answers.OpenAnswer as toOpen
+use Rattle.dispatcher_rules.specs.declared.answers.OpenError.TheVariants as toOpen
+use Rattle.ipc_rules.specs.declared.answers.CreateError.{CreateError}
+use Rattle.dispatcher_rules.specs.declared.answers.OpenedJob.{OpenedJob}
+use Rattle.dispatcher_rules.specs.declared.answers.OpenError.{OpenError}
 
 -- what a dispatcher is lent and itself (`Desk` of `dispatcher_rules`), and the ids that creations have answered so far, the last first
 pub record Books : Type 0 where
@@ -63,21 +64,21 @@ pub data Step : Type 0 where
 
 -- ---- what a step leaves
 -- the ids so far, with those of a creation that succeeded
-unfoldable pub if_created : toCreate.CreateAnswer → List Channel → List Channel
-if_created (toCreate.TheVariants.Created ids) l = ids ∷ l
-if_created toCreate.TheVariants.NoMailbox l = l
-if_created toCreate.TheVariants.NoEndpoint l = l
-if_created toCreate.TheVariants.BadTable l = l
+unfoldable pub if_created : Result Channel CreateError → List Channel → List Channel
+if_created (Ok ids) l = ids ∷ l
+if_created (Err toCreate.NoMailbox) l = l
+if_created (Err toCreate.NoEndpoint) l = l
+if_created (Err toCreate.BadTable) l = l
 
-unfoldable pub if_opened : toOpen.OpenAnswer → List Channel → List Channel
-if_opened (toOpen.TheVariants.Opened j) l = record { send = j.send; recv = j.recv } ∷ l
-if_opened toOpen.TheVariants.NoVariant l = l
-if_opened toOpen.TheVariants.BadRow l = l
-if_opened toOpen.TheVariants.JobsFull l = l
-if_opened toOpen.TheVariants.NoMailbox l = l
-if_opened toOpen.TheVariants.NoEndpoint l = l
-if_opened toOpen.TheVariants.BadSlot l = l
-if_opened toOpen.TheVariants.BadTable l = l
+unfoldable pub if_opened : Result OpenedJob OpenError → List Channel → List Channel
+if_opened (Ok j) l = record { send = j.send; recv = j.recv } ∷ l
+if_opened (Err toOpen.NoVariant) l = l
+if_opened (Err toOpen.BadRow) l = l
+if_opened (Err toOpen.JobsFull) l = l
+if_opened (Err toOpen.NoMailbox) l = l
+if_opened (Err toOpen.NoEndpoint) l = l
+if_opened (Err toOpen.BadSlot) l = l
+if_opened (Err toOpen.BadTable) l = l
 
 -- another channel table; another channel table and other rows
 abbrev pub with_channels : Books → Channels → Books
@@ -136,9 +137,9 @@ CameFrom l c = is_endpoint (class_of c) ≡ true → Among c l
 -- none there, a transfer moves one that is in a slot already, and an opening puts those of its own creation
 unfoldable pub PutsCreated : Books → Step → Type 0
 PutsCreated b (spawn r words) =
-    (spawn_of b.channels b.rows r words).answer ≡ Spawned → (i : ℕ) (c : CapId) → i < 4 → slot_at words i ≡ holding c → CameFrom b.created c
+    (spawn_of b.channels b.rows r words).answer ≡ Ok tt → (i : ℕ) (c : CapId) → i < 4 → slot_at words i ≡ holding c → CameFrom b.created c
 PutsCreated b (leave r) = Unit
-PutsCreated b (give r s c) = (give_of b.channels b.rows r s c).answer ≡ Given → CameFrom b.created c
+PutsCreated b (give r s c) = (give_of b.channels b.rows r s c).answer ≡ Ok tt → CameFrom b.created c
 PutsCreated b (create ephemeral) = Unit
 PutsCreated b (revoke c) = Unit
 PutsCreated b (send c p row) = Unit

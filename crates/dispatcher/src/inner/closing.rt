@@ -6,19 +6,15 @@ ghost use Rattle.dispatcher_rules.specs.Close.{woken_by, end_of, close_job_of};
 use crate::inner::places::with_job;
 use cap::CapId;
 use capslots::Table as Rows;
-use dispatcher_rules::answers::{CloseAnswer, Ending, JobClosing};
+use dispatcher_rules::answers::{CloseError, Ending, JobClosing};
 use dispatcher_rules::state::{Dispatcher, MAX_JOBS, NO_JOB};
-use ipc_rules::answers::{HoldersAnswer, RevokeAnswer};
+use ipc_rules::answers::RevokeAnswer;
 use ipc_rules::state::{NOBODY, Table as Channels, Waiter};
 
 fn woken(answer: RevokeAnswer) -> Waiter
     ensures { result ≡ woken_by answer }
 {
-    match answer {
-        RevokeAnswer::Revoked(waiter) => waiter,
-        RevokeAnswer::BadCap => NOBODY,
-        RevokeAnswer::BadTable => NOBODY,
-    }
+    answer.unwrap_or(NOBODY)
 }
 
 // Revokes the channel of `send` where that opens for send. Asking for its holds raises no count.
@@ -26,7 +22,7 @@ fn end(channels: Channels, send: CapId) -> Ending
     requires { Sound channels }
     ensures { result ≡ end_of channels send }
 {
-    let HoldersAnswer::Holders(_) = ipc_queue::inner::send_holders(channels, send) else {
+    let Ok(_) = ipc_queue::inner::send_holders(channels, send) else {
         return Ending {
             waiter: NOBODY,
             channels,
@@ -49,7 +45,7 @@ pub fn close(d: Dispatcher, rows: Rows, channels: Channels, place: usize) -> Job
 {
     if place >= MAX_JOBS {
         return JobClosing {
-            answer: CloseAnswer::NoJob,
+            answer: Err(CloseError::NoJob),
             dispatcher: d,
             rows,
             channels,
@@ -58,7 +54,7 @@ pub fn close(d: Dispatcher, rows: Rows, channels: Channels, place: usize) -> Job
     let job = d.jobs[place];
     if !job.open {
         return JobClosing {
-            answer: CloseAnswer::NoJob,
+            answer: Err(CloseError::NoJob),
             dispatcher: d,
             rows,
             channels,
@@ -70,7 +66,7 @@ pub fn close(d: Dispatcher, rows: Rows, channels: Channels, place: usize) -> Job
     let emptied = capslots::forget(rows, job.ends.send, job.ends.recv);
     let without = with_job(d, place, NO_JOB);
     JobClosing {
-        answer: CloseAnswer::Closed(waiter),
+        answer: Ok(waiter),
         dispatcher: without,
         rows: emptied,
         channels: after,

@@ -1,34 +1,21 @@
 // A job opened for a tag.
-ghost use Rattle.std.specs.Prelude.{◌≡◌, ◌≤◌, ◌<◌};
+ghost use Rattle.std.specs.Prelude.{◌≡◌, ◌≤◌, ◌<◌, Err};
 ghost use Rattle.ipc_rules.specs.Sound.{Sound};
 ghost use Rattle.dispatcher_rules.specs.Open.{variant_of, open_refused, job_opened, gives_both, job_made, open_job_of};
 ghost use Rattle.dispatcher_rules.specs.Border.{Ready};
 
-use crate::binding::same_tag;
 use crate::inner::places::{free_place, with_job};
 use cap::ROWS;
 use capslots::Table as Rows;
-use dispatcher_rules::answers::{JobOpening, OpenAnswer, OpenedJob};
+use dispatcher_rules::answers::{JobOpening, OpenAnswer, OpenError, OpenedJob};
 use dispatcher_rules::state::{Dispatcher, Job, Tag};
-use ipc_rules::answers::CreateAnswer;
 use ipc_rules::state::{Channel, Table as Channels};
-use laws::Found;
 
-fn find(d: Dispatcher, tag: Tag) -> Found
+fn find(d: Dispatcher, tag: Tag) -> Option<usize>
     requires { d.count ≤ 16 }
     ensures { result ≡ variant_of d tag }
 {
-    let mut i: usize = 0;
-    loop {
-        if i >= d.count {
-            break Found::Nowhere;
-        }
-        let v = d.variants[i];
-        if same_tag(v.tag, tag) {
-            break Found::At(i);
-        }
-        i += 1;
-    }
+    d.variants[..d.count].iter().position(|v| v.tag == tag)
 }
 
 // The send id to the lowest empty slot of the extractor's row, and then the receive id to the lowest empty slot, of those now left, of `row`.
@@ -45,11 +32,11 @@ fn hand_out(
     row: usize,
 ) -> JobOpening
     requires { Sound made × (place < 16) }
-    ensures { result ≡ gives_both made rows ends extractor row (open_refused OpenAnswer.BadSlot d rows channels) (job_opened d place tag ends) }
+    ensures { result ≡ gives_both made rows ends extractor row (open_refused (Err OpenError.BadSlot) d rows channels) (job_opened d place tag ends) }
 {
-    let Found::At(s) = capslots::empty_slot(rows, extractor) else {
+    let Some(s) = capslots::empty_slot(rows, extractor) else {
         return JobOpening {
-            answer: OpenAnswer::BadSlot,
+            answer: Err(OpenError::BadSlot),
             dispatcher: d,
             rows,
             channels,
@@ -57,9 +44,9 @@ fn hand_out(
     };
     let first = joined::inner::give(made, rows, extractor, s, ends.send);
     let left = first.rows;
-    let Found::At(q) = capslots::empty_slot(left, row) else {
+    let Some(q) = capslots::empty_slot(left, row) else {
         return JobOpening {
-            answer: OpenAnswer::BadSlot,
+            answer: Err(OpenError::BadSlot),
             dispatcher: d,
             rows,
             channels,
@@ -79,7 +66,7 @@ fn hand_out(
     };
     let with = with_job(d, place, job);
     JobOpening {
-        answer: OpenAnswer::Opened(opened),
+        answer: Ok(opened),
         dispatcher: with,
         rows: filled,
         channels: after,
@@ -102,24 +89,12 @@ fn make_job(
     let created = ipc_life::inner::create(channels, true);
     let answer = created.answer;
     match answer {
-        CreateAnswer::Created(ends) => {
+        Ok(ends) => {
             let made = created.table;
             hand_out(d, rows, channels, made, place, tag, ends, extractor, row)
         }
-        CreateAnswer::NoMailbox => JobOpening {
-            answer: OpenAnswer::NoMailbox,
-            dispatcher: d,
-            rows,
-            channels,
-        },
-        CreateAnswer::NoEndpoint => JobOpening {
-            answer: OpenAnswer::NoEndpoint,
-            dispatcher: d,
-            rows,
-            channels,
-        },
-        CreateAnswer::BadTable => JobOpening {
-            answer: OpenAnswer::BadTable,
+        Err(refusal) => JobOpening {
+            answer: Err(OpenError::from(refusal)),
             dispatcher: d,
             rows,
             channels,
@@ -132,9 +107,9 @@ pub fn open(d: Dispatcher, rows: Rows, channels: Channels, tag: Tag, extractor: 
     requires { Ready d channels }
     ensures { result ≡ open_job_of d rows channels tag extractor }
 {
-    let Found::At(v) = find(d, tag) else {
+    let Some(v) = find(d, tag) else {
         return JobOpening {
-            answer: OpenAnswer::NoVariant,
+            answer: Err(OpenError::NoVariant),
             dispatcher: d,
             rows,
             channels,
@@ -142,15 +117,15 @@ pub fn open(d: Dispatcher, rows: Rows, channels: Channels, tag: Tag, extractor: 
     };
     if extractor >= ROWS {
         return JobOpening {
-            answer: OpenAnswer::BadRow,
+            answer: Err(OpenError::BadRow),
             dispatcher: d,
             rows,
             channels,
         };
     }
-    let Found::At(place) = free_place(d) else {
+    let Some(place) = free_place(d) else {
         return JobOpening {
-            answer: OpenAnswer::JobsFull,
+            answer: Err(OpenError::JobsFull),
             dispatcher: d,
             rows,
             channels,

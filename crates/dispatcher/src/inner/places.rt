@@ -3,24 +3,13 @@ ghost use Rattle.std.specs.Prelude.{◌≡◌, ◌<◌};
 ghost use Rattle.dispatcher_rules.specs.State.{with_job};
 ghost use Rattle.dispatcher_rules.specs.Open.{free_place};
 
-use dispatcher_rules::state::{Dispatcher, Job, MAX_JOBS};
-use laws::Found;
+use dispatcher_rules::state::{Dispatcher, Job};
 
 // The lowest place that is not open.
-pub fn free_place(d: Dispatcher) -> Found
+pub fn free_place(d: Dispatcher) -> Option<usize>
     ensures { result ≡ free_place d }
 {
-    let mut p: usize = 0;
-    loop {
-        if p >= MAX_JOBS {
-            break Found::Nowhere;
-        }
-        let job = d.jobs[p];
-        if !job.open {
-            break Found::At(p);
-        }
-        p += 1;
-    }
+    d.jobs.iter().position(|job| !job.open)
 }
 
 pub fn with_job(mut d: Dispatcher, place: usize, job: Job) -> Dispatcher

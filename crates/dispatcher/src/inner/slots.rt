@@ -3,11 +3,8 @@ ghost use Rattle.std.specs.Prelude.{◌≡◌};
 ghost use Rattle.ipc_rules.specs.Sound.{Sound};
 ghost use Rattle.dispatcher_rules.specs.Slots.{slot_send_of, slot_recv_of, slot_park_of};
 
-use cap::SlotAnswer;
 use capslots::Table as Rows;
-use dispatcher_rules::answers::{
-    SlotParkAnswer, SlotParking, SlotReceiving, SlotRecvAnswer, SlotSendAnswer, SlotSending,
-};
+use dispatcher_rules::answers::{BySlotError, SlotParking, SlotReceiving, SlotSending};
 use dispatcher_rules::state::Dispatcher;
 use ipc_rules::state::{Payload, Table as Channels, TaskId};
 
@@ -24,25 +21,19 @@ pub fn send(
     ensures { result ≡ slot_send_of d rows channels row slot payload }
 {
     match capslots::get(rows, row, slot) {
-        SlotAnswer::Names(id) => {
+        Ok(id) => {
             let sent = ipc_queue::inner::send(channels, id, payload, row);
             let answer = sent.answer;
             let after = sent.table;
             SlotSending {
-                answer: SlotSendAnswer::Answered(answer),
+                answer: Ok(answer),
                 dispatcher: d,
                 rows,
                 channels: after,
             }
         }
-        SlotAnswer::OutOfRange { slot: at, slots } => SlotSending {
-            answer: SlotSendAnswer::OutOfRange { slot: at, slots },
-            dispatcher: d,
-            rows,
-            channels,
-        },
-        SlotAnswer::Vacant { slot: at } => SlotSending {
-            answer: SlotSendAnswer::Vacant { slot: at },
+        Err(refusal) => SlotSending {
+            answer: Err(BySlotError::from(refusal)),
             dispatcher: d,
             rows,
             channels,
@@ -62,25 +53,19 @@ pub fn receive(
     ensures { result ≡ slot_recv_of d rows channels row slot }
 {
     match capslots::get(rows, row, slot) {
-        SlotAnswer::Names(id) => {
+        Ok(id) => {
             let received = ipc_queue::inner::try_recv(channels, id);
             let answer = received.answer;
             let after = received.table;
             SlotReceiving {
-                answer: SlotRecvAnswer::Answered(answer),
+                answer: Ok(answer),
                 dispatcher: d,
                 rows,
                 channels: after,
             }
         }
-        SlotAnswer::OutOfRange { slot: at, slots } => SlotReceiving {
-            answer: SlotRecvAnswer::OutOfRange { slot: at, slots },
-            dispatcher: d,
-            rows,
-            channels,
-        },
-        SlotAnswer::Vacant { slot: at } => SlotReceiving {
-            answer: SlotRecvAnswer::Vacant { slot: at },
+        Err(refusal) => SlotReceiving {
+            answer: Err(BySlotError::from(refusal)),
             dispatcher: d,
             rows,
             channels,
@@ -101,25 +86,19 @@ pub fn park(
     ensures { result ≡ slot_park_of d rows channels row slot me }
 {
     match capslots::get(rows, row, slot) {
-        SlotAnswer::Names(id) => {
+        Ok(id) => {
             let parked = ipc_queue::inner::park(channels, id, me);
             let answer = parked.answer;
             let after = parked.table;
             SlotParking {
-                answer: SlotParkAnswer::Answered(answer),
+                answer: Ok(answer),
                 dispatcher: d,
                 rows,
                 channels: after,
             }
         }
-        SlotAnswer::OutOfRange { slot: at, slots } => SlotParking {
-            answer: SlotParkAnswer::OutOfRange { slot: at, slots },
-            dispatcher: d,
-            rows,
-            channels,
-        },
-        SlotAnswer::Vacant { slot: at } => SlotParking {
-            answer: SlotParkAnswer::Vacant { slot: at },
+        Err(refusal) => SlotParking {
+            answer: Err(BySlotError::from(refusal)),
             dispatcher: d,
             rows,
             channels,

@@ -6,64 +6,67 @@ ghost use Rattle.ipc_rules.specs.Create.{free_mailbox, free_endpoint, create_of}
 use cap::{CapId, CapRights};
 use ipc_parts::inner::new_endpoint;
 use ipc_parts::mailboxes::new_mailbox;
-use ipc_rules::answers::{CreateAnswer, Creation};
+use ipc_rules::answers::{CreateAnswer, CreateError};
 use ipc_rules::state::{Channel, Table};
-use laws::Found;
+use shown::Answered;
 
-fn free_mailbox(t: Table) -> Found
+// Document 01: "loop yields the free mailbox or endpoint place by break".
+#[tactic(auto, using(laws::proofs::Search::searching))]
+fn free_mailbox(t: Table) -> Option<usize>
     requires { Sound t }
     ensures { result ≡ free_mailbox t }
 {
-    let mut i: usize = 0;
+    let mut i = 0;
     loop {
         if i >= t.sizes.mailboxes {
-            break Found::Nowhere;
+            break None;
         }
-        let b = t.mailboxes[i];
-        if !b.is_live() {
-            break Found::At(i);
+        if !t.mailboxes[i].is_live() {
+            break Some(i);
         }
         i += 1;
     }
 }
 
-fn free_endpoint(t: Table, from: usize) -> Found
+// Document 01: "loop yields the free mailbox or endpoint place by break".
+#[tactic(auto, using(laws::proofs::Search::searching))]
+fn free_endpoint(t: Table, from: usize) -> Option<usize>
     requires { Sound t }
     ensures { result ≡ free_endpoint t from }
 {
     let mut i = from;
     loop {
         if i >= t.sizes.endpoints {
-            break Found::Nowhere;
+            break None;
         }
-        let ep = t.endpoints[i];
-        if !ep.is_live() {
-            break Found::At(i);
+        if !t.endpoints[i].is_live() {
+            break Some(i);
         }
         i += 1;
     }
 }
 
 // Both ends carry the present generation: they name the same channel at the same moment in time.
-pub fn create(mut t: Table, ephemeral: bool) -> Creation
+#[tactic(auto, using(laws::proofs::Search::found_below))]
+pub fn create(mut t: Table, ephemeral: bool) -> Answered<CreateAnswer, Table>
     requires { Sound t }
     ensures { result ≡ create_of t ephemeral }
 {
-    let Found::At(k) = free_mailbox(t) else {
-        return Creation {
-            answer: CreateAnswer::NoMailbox,
+    let Some(k) = free_mailbox(t) else {
+        return Answered {
+            answer: Err(CreateError::NoMailbox),
             table: t,
         };
     };
-    let Found::At(s) = free_endpoint(t, 0) else {
-        return Creation {
-            answer: CreateAnswer::NoEndpoint,
+    let Some(s) = free_endpoint(t, 0) else {
+        return Answered {
+            answer: Err(CreateError::NoEndpoint),
             table: t,
         };
     };
-    let Found::At(r) = free_endpoint(t, s + 1) else {
-        return Creation {
-            answer: CreateAnswer::NoEndpoint,
+    let Some(r) = free_endpoint(t, s + 1) else {
+        return Answered {
+            answer: Err(CreateError::NoEndpoint),
             table: t,
         };
     };
@@ -76,8 +79,8 @@ pub fn create(mut t: Table, ephemeral: bool) -> Creation
         send: CapId::new(s as u16, generation),
         recv: CapId::new(r as u16, generation),
     };
-    Creation {
-        answer: CreateAnswer::Created(ends),
+    Answered {
+        answer: Ok(ends),
         table: t,
     }
 }

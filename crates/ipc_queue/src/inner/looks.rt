@@ -4,10 +4,10 @@ ghost use Rattle.ipc_rules.specs.Sound.{Sound};
 ghost use Rattle.ipc_rules.specs.Observe.{queued_of, holders_of};
 ghost use Rattle.ipc_rules.specs.Why.{why_of};
 
-use cap::{CapId, CapRights};
-use ipc_parts::opening::{attempt, open, open_either, right_for};
-use ipc_rules::answers::{HoldersAnswer, QueuedAnswer, WhyAnswer};
-use ipc_rules::opening::{Asked, Attempt, Opening};
+use cap::CapId;
+use ipc_parts::opening::{attempt, open, right_for};
+use ipc_rules::answers::{CapError, HoldersAnswer, QueuedAnswer, WhyAnswer, WhyError};
+use ipc_rules::opening::{Asked, Opening};
 use ipc_rules::state::{MAX_ENDPOINTS, Table};
 
 // How many messages wait. Either end may ask, and no count is raised.
@@ -17,11 +17,11 @@ pub fn queued(t: Table, cap: CapId) -> QueuedAnswer
 {
     let i = cap.index() as usize;
     let ep = t.endpoints[i % MAX_ENDPOINTS];
-    let Opening::Opens(k) = open_either(i < t.sizes.endpoints, ep, cap) else {
-        return QueuedAnswer::BadCap;
+    let Opening::Opens(k) = open(i < t.sizes.endpoints, ep, cap, Asked::Either) else {
+        return Err(CapError::BadCap);
     };
     let b = t.mailboxes[k];
-    QueuedAnswer::Queued(b.ring.len)
+    Ok(b.ring.len)
 }
 
 // How many holds on the send end are registered and not released.
@@ -31,11 +31,11 @@ pub fn send_holders(t: Table, cap: CapId) -> HoldersAnswer
 {
     let i = cap.index() as usize;
     let ep = t.endpoints[i % MAX_ENDPOINTS];
-    let Opening::Opens(k) = open(i < t.sizes.endpoints, ep, cap, CapRights::SEND) else {
-        return HoldersAnswer::BadCap;
+    let Opening::Opens(k) = open(i < t.sizes.endpoints, ep, cap, Asked::Send) else {
+        return Err(CapError::BadCap);
     };
     let b = t.mailboxes[k];
-    HoldersAnswer::Holders(b.send_holders)
+    Ok(b.send_holders)
 }
 
 // For the supervisor: why an id opens nothing, if it does not. No count is raised.
@@ -45,13 +45,8 @@ pub fn why_shut(t: Table, cap: CapId, asked: Asked) -> WhyAnswer
 {
     let i = cap.index() as usize;
     let ep = t.endpoints[i % MAX_ENDPOINTS];
-    let Attempt::Fails(reason) = attempt(
-        i < t.sizes.endpoints,
-        ep,
-        cap,
-        right_for(asked, ep.rights),
-    ) else {
-        return WhyAnswer::Opens;
+    let Err(reason) = attempt(i < t.sizes.endpoints, ep, cap, right_for(asked, ep.rights)) else {
+        return Ok(());
     };
-    WhyAnswer::Shut(reason)
+    Err(WhyError::Shut(reason))
 }

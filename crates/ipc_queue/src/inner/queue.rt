@@ -4,40 +4,41 @@ ghost use Rattle.ipc_rules.specs.Sound.{Sound};
 ghost use Rattle.ipc_rules.specs.Send.{send_of};
 ghost use Rattle.ipc_rules.specs.Receive.{recv_of, park_of};
 
-use cap::{CapId, CapRights, ROWS};
+use cap::{CapId, ROWS};
 use ipc_parts::counts::raised;
 use ipc_parts::inner::{drained, filled, stamped};
 use ipc_parts::opening::open;
 use ipc_parts::waiters::other_waits;
-use ipc_rules::answers::{ParkAnswer, Parking, Receiving, RecvAnswer, SendAnswer, Sending};
-use ipc_rules::opening::Opening;
+use ipc_rules::answers::{ParkAnswer, ParkError, RecvAnswer, RecvError, SendAnswer, SendError};
+use ipc_rules::opening::{Asked, Opening};
 use ipc_rules::state::{MAX_DEPTH, MAX_ENDPOINTS, Payload, Table, TaskId, Waiter};
+use shown::Answered;
 
 // Queues what the sender handed in, stamped with the row that the caller names, and answers the task to wake, if one was parked.
-pub fn send(mut t: Table, cap: CapId, payload: Payload, row: usize) -> Sending
+pub fn send(mut t: Table, cap: CapId, payload: Payload, row: usize) -> Answered<SendAnswer, Table>
     requires { Sound t }
     ensures { result ≡ send_of t cap payload row }
 {
     if row >= ROWS {
-        return Sending {
-            answer: SendAnswer::BadRow,
+        return Answered {
+            answer: Err(SendError::BadRow),
             table: t,
         };
     }
     let i = cap.index() as usize;
     let ep = t.endpoints[i % MAX_ENDPOINTS];
-    let Opening::Opens(k) = open(i < t.sizes.endpoints, ep, cap, CapRights::SEND) else {
+    let Opening::Opens(k) = open(i < t.sizes.endpoints, ep, cap, Asked::Send) else {
         t.counters.refusals.authority = raised(t.counters.refusals.authority);
-        return Sending {
-            answer: SendAnswer::BadCap,
+        return Answered {
+            answer: Err(SendError::BadCap),
             table: t,
         };
     };
     let b = t.mailboxes[k];
     if b.ring.len == t.sizes.depth {
         t.counters.refusals.full = raised(t.counters.refusals.full);
-        return Sending {
-            answer: SendAnswer::Full,
+        return Answered {
+            answer: Err(SendError::Full),
             table: t,
         };
     }
@@ -45,53 +46,53 @@ pub fn send(mut t: Table, cap: CapId, payload: Payload, row: usize) -> Sending
     t.messages[at] = stamped(payload, row);
     t.mailboxes[k] = filled(b, t.sizes.depth);
     let woken = b.waiter;
-    Sending {
-        answer: SendAnswer::Sent(woken),
+    Answered {
+        answer: Ok(woken),
         table: t,
     }
 }
 
 // Takes the oldest message, if there is one. Never parks.
-pub fn try_recv(mut t: Table, cap: CapId) -> Receiving
+pub fn try_recv(mut t: Table, cap: CapId) -> Answered<RecvAnswer, Table>
     requires { Sound t }
     ensures { result ≡ recv_of t cap }
 {
     let i = cap.index() as usize;
     let ep = t.endpoints[i % MAX_ENDPOINTS];
-    let Opening::Opens(k) = open(i < t.sizes.endpoints, ep, cap, CapRights::RECV) else {
+    let Opening::Opens(k) = open(i < t.sizes.endpoints, ep, cap, Asked::Receive) else {
         t.counters.refusals.authority = raised(t.counters.refusals.authority);
-        return Receiving {
-            answer: RecvAnswer::BadCap,
+        return Answered {
+            answer: Err(RecvError::BadCap),
             table: t,
         };
     };
     let b = t.mailboxes[k];
     if b.ring.len == 0 {
-        return Receiving {
-            answer: RecvAnswer::Empty,
+        return Answered {
+            answer: Err(RecvError::Empty),
             table: t,
         };
     }
     let msg = t.messages[k * MAX_DEPTH + b.ring.tail];
     t.mailboxes[k] = drained(b, t.sizes.depth);
-    Receiving {
-        answer: RecvAnswer::Received(msg),
+    Answered {
+        answer: Ok(msg),
         table: t,
     }
 }
 
 // Gives a message that is queued, or claims the waiter's place for `me`. A second task is refused: overwritten, the first would never
 // be woken.
-pub fn park(mut t: Table, cap: CapId, me: TaskId) -> Parking
+pub fn park(mut t: Table, cap: CapId, me: TaskId) -> Answered<ParkAnswer, Table>
     requires { Sound t }
     ensures { result ≡ park_of t cap me }
 {
     let i = cap.index() as usize;
     let ep = t.endpoints[i % MAX_ENDPOINTS];
-    let Opening::Opens(k) = open(i < t.sizes.endpoints, ep, cap, CapRights::RECV) else {
+    let Opening::Opens(k) = open(i < t.sizes.endpoints, ep, cap, Asked::Receive) else {
         t.counters.refusals.authority = raised(t.counters.refusals.authority);
-        return Parking {
-            answer: ParkAnswer::BadCap,
+        return Answered {
+            answer: Err(ParkError::BadCap),
             table: t,
         };
     };
@@ -99,21 +100,21 @@ pub fn park(mut t: Table, cap: CapId, me: TaskId) -> Parking
     if 0 < b.ring.len {
         let msg = t.messages[k * MAX_DEPTH + b.ring.tail];
         t.mailboxes[k] = drained(b, t.sizes.depth);
-        return Parking {
-            answer: ParkAnswer::Given(msg),
+        return Answered {
+            answer: Ok(Some(msg)),
             table: t,
         };
     }
     if b.ephemeral & (b.send_holders == 0) {
-        return Parking {
-            answer: ParkAnswer::Cancelled,
+        return Answered {
+            answer: Err(ParkError::Cancelled),
             table: t,
         };
     }
     if other_waits(b.waiter, me) {
         t.counters.refusals.state = raised(t.counters.refusals.state);
-        return Parking {
-            answer: ParkAnswer::Busy,
+        return Answered {
+            answer: Err(ParkError::Busy),
             table: t,
         };
     }
@@ -123,8 +124,8 @@ pub fn park(mut t: Table, cap: CapId, me: TaskId) -> Parking
     };
     b.waiter = waiting;
     t.mailboxes[k] = b;
-    Parking {
-        answer: ParkAnswer::Parked,
+    Answered {
+        answer: Ok(None),
         table: t,
     }
 }

@@ -34,7 +34,7 @@ returns-then-not-in_range c =
 pub mailboxes_ok-requires : goal.mailboxes_ok-requires
 mailboxes_ok-requires c =
     let shallow : c.args.t.sizes.depth ≤ 8 = (in_range_of c.args.t.sizes (in_range_lem (goal.at.mailboxes_ok-requires c).Else-not-in_range)).depth in
-    (c.last_ends-l.ensures.0, c.last_ends-l.ensures.1, shallow)
+    record { last = c.last_ends-l.ensures; shallow = shallow }
 
 pub returns : goal.returns
 unfolding sound_test

@@ -3,9 +3,9 @@ ghost use Rattle.std.specs.Prelude.{◌≡◌};
 ghost use Rattle.ipc_rules.specs.Sound.{Sound};
 ghost use Rattle.joined.specs.Steps.{give_of};
 
-use crate::answers::{GiveAnswer, Giving};
+use crate::answers::{GiveError, Giving};
 use cap::{CapId, Slot};
-use capslots::{InstallAnswer, Table as Rows};
+use capslots::Table as Rows;
 use ipc_rules::state::Table as Channels;
 
 // Installs the id and, where that succeeds, registers it. An id that opens nothing is given all the same, and holds nothing.
@@ -15,19 +15,19 @@ pub fn give(channels: Channels, rows: Rows, row: usize, slot: usize, id: CapId) 
 {
     let installed = capslots::install(rows, row, slot, id);
     let answer = installed.answer;
-    let InstallAnswer::Installed = answer else {
+    let Ok(()) = answer else {
         return Giving {
-            answer: GiveAnswer::BadSlot,
+            answer: Err(GiveError::BadSlot),
             channels,
             rows,
         };
     };
     let filled = installed.table;
-    let list = [cap::word_of(Slot { present: true, id })];
+    let list = [cap::word_of(Slot::holding(id))];
     let registered = ipc_holds::inner::register_holds(channels, &list);
     let held = registered.table;
     Giving {
-        answer: GiveAnswer::Given,
+        answer: Ok(()),
         channels: held,
         rows: filled,
     }

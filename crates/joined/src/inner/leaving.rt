@@ -3,7 +3,7 @@ ghost use Rattle.std.specs.Prelude.{◌≡◌};
 ghost use Rattle.ipc_rules.specs.Sound.{Sound};
 ghost use Rattle.joined.specs.Steps.{leave_of};
 
-use crate::answers::{LeaveAnswer, Leaving};
+use crate::answers::{LeaveError, Leaving};
 use cap::ROWS;
 use capslots::Table as Rows;
 use ipc_rules::state::{NOBODY, Table as Channels};
@@ -15,7 +15,7 @@ pub fn leave(channels: Channels, rows: Rows, row: usize) -> Leaving
 {
     if row >= ROWS {
         return Leaving {
-            answer: LeaveAnswer::BadRow,
+            answer: Err(LeaveError::BadRow),
             waiters: [NOBODY; 4],
             channels,
             rows,
@@ -28,7 +28,7 @@ pub fn leave(channels: Channels, rows: Rows, row: usize) -> Leaving
     let waiters = released.waiters;
     let freed = released.table;
     Leaving {
-        answer: LeaveAnswer::Left,
+        answer: Ok(()),
         waiters,
         channels: freed,
         rows: emptied,

@@ -3,7 +3,7 @@ ghost use Rattle.std.specs.Prelude.{◌≡◌};
 ghost use Rattle.ipc_rules.specs.Sound.{Sound};
 ghost use Rattle.joined.specs.Steps.{spawn_of};
 
-use crate::answers::{SpawnAnswer, Spawning};
+use crate::answers::{SpawnError, Spawning};
 use cap::ROWS;
 use capslots::Table as Rows;
 use ipc_rules::state::{NOBODY, Table as Channels};
@@ -17,7 +17,7 @@ pub fn spawn(channels: Channels, rows: Rows, row: usize, list: &[u64]) -> Spawni
     let reads = cap::words_read(list);
     if !reads {
         return Spawning {
-            answer: SpawnAnswer::BadWord,
+            answer: Err(SpawnError::BadWord),
             waiters: [NOBODY; 4],
             channels,
             rows,
@@ -25,7 +25,7 @@ pub fn spawn(channels: Channels, rows: Rows, row: usize, list: &[u64]) -> Spawni
     }
     if row >= ROWS {
         return Spawning {
-            answer: SpawnAnswer::BadRow,
+            answer: Err(SpawnError::BadRow),
             waiters: [NOBODY; 4],
             channels,
             rows,
@@ -43,7 +43,7 @@ pub fn spawn(channels: Channels, rows: Rows, row: usize, list: &[u64]) -> Spawni
     let present = own.slots;
     let held = ipc_holds::inner::register_four(freed, present);
     Spawning {
-        answer: SpawnAnswer::Spawned,
+        answer: Ok(()),
         waiters,
         channels: held,
         rows: filled,

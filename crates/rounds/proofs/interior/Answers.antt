@@ -4,14 +4,11 @@ use Rattle.ipc_rules.proofs.KeepsCreate.{create_kept}
 use Rattle.ipc_rules.proofs.KeepsCalls.{send_kept, recv_kept}
 use Rattle.rounds.proofs.interior.Goals as goal
 
-pub create-creation-requires : goal.create-creation-requires
-create-creation-requires c = rw c.new-made.ensures (new_sound 32 64 8)
+pub create-requires : goal.create-requires
+create-requires c = rw c.new.ensures (new_sound 32 64 8)
 
 pub loop-i-init : goal.loop-i-init
-loop-i-init c = rw c.create-creation.ensures (create_kept _ _ (rw c.new-made.ensures (new_sound 32 64 8)))
-
-pub send-sent-requires : goal.send-sent-requires
-send-sent-requires c = c.loop-i.invariant
+loop-i-init c = rw c.create.ensures (create_kept _ _ (rw c.new.ensures (new_sound 32 64 8)))
 
 pub try_recv-got-requires : goal.try_recv-got-requires
 try_recv-got-requires c = rw c.send-sent.ensures (send_kept _ _ _ _ c.loop-i.invariant)

@@ -1,22 +1,9 @@
--- `capslots::vacancies::forget` meets its contract. The loop's invariant: the first `row` rows have forgotten. Assumes nothing.
-use mathlib.Core.Path.{◌≡◌, ap}
-use mathlib.Core.List.{List, []}
-use borrow.Author.Rules.{rules}
-use lib.ListN.{length}
-use Rattle.laws.proofs.Lists.{unmapped}
-use Rattle.laws.proofs.Through.{through_none, through_turn, through_done}
-use Rattle.capslots.specs.Rows.{forgotten_of}
-use Rattle.capslots.specs.declared.Row.{Row}
+-- `capslots::vacancies::forget` meets its contract. Assumes nothing.
+use Rattle.std.proofs.Common.{arith}
+use Rattle.std.proofs.lemmas.Grind.{common_steps}
+use Rattle.std.proofs.lemmas.List.Edits.{map_over_more}
+use Rattle.capslots.specs.Rows.{forget_row}
 use Rattle.capslots.proofs.vacancies.forget.Goals as goal
 
-pub loop-row-init : goal.loop-row-init
-loop-row-init c = (search rules, through_none _ _)
-
 pub loop-row-preserved : goal.loop-row-preserved
-loop-row-preserved c = (search rules, through_turn _ _ (record { slots = [] }) _ c.loop-row.invariant.1 c.forget_row.ensures)
-
-pub returns : goal.returns
-unfolding forgotten_of
-returns c =
-    let whole : length c.args.t.rows ≡ 54 = search (rules, unmapped) in
-    ap (λ (l : List Row). record { rows = l }) (through_done _ _ _ 54 whole (search rules) (search rules) c.loop-row.invariant.1)
+loop-row-preserved c = grind (arith, common_steps, map_over_more (forget_row c.args.a c.args.b))

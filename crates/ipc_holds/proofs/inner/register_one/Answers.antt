@@ -1,7 +1,6 @@
 -- `ipc_holds::inner::register_one` meets its contract: what the slot opens in a sound table is a live mailbox, which gets one hold. Assumes nothing.
-use mathlib.Core.Path.{◌≡◌, refl, sym, ◌∙◌}
+use mathlib.Core.Path.{◌≡◌, refl}
 use Prim.Native.Nat.{ℕ}
-use native.Mathlib.Omega.{arith}
 use borrow.Author.Tests.{not-true, not-false}
 use Rattle.cap.specs.declared.slot.Slot.{Slot}
 use Rattle.ipc_rules.specs.State.{mailbox_at, with_mailbox}
@@ -11,17 +10,13 @@ use Rattle.ipc_rules.specs.declared.state.Mailbox.{Mailbox}
 use Rattle.ipc_rules.specs.declared.state.Table.{Table}
 use Rattle.ipc_rules.specs.declared.opening.Opening.{Opening}
 use Rattle.ipc_rules.specs.declared.opening.Opening.TheVariants.{Opens, Shut}
-use Rattle.ipc_rules.proofs.Openings.{shut, opens, hold_gave, hold_vacant, hold_within, Within}
+use Rattle.ipc_rules.proofs.Openings.{shut, opens, hold_gave, hold_vacant}
 use Rattle.ipc_holds.proofs.inner.register_one.Goals as goal
 use Rattle.ipc_holds.proofs.inner.register_one.Goals.{After-open, In-Opens}
 
 -- what `open` gave is what the rule asks of a slot that is not vacant
 gave : (c : After-open) → c.open.result ≡ hold_of c.args.t c.args.slot
 gave c = hold_gave _ _ _ c.requires _ (not-false _ c.if-not-slot.false) c.index-i.ensures c.open.ensures
-
--- what opened is a live mailbox within the arrays
-inside : (c : In-Opens) → Within c.args.t c.in-Opens.k
-inside c = hold_within _ _ _ c.requires (sym (hold_gave _ _ _ c.requires _ (not-false _ c.if-not-slot.false) c.index-i.ensures c.open.ensures) ∙ c.in-Opens.is)
 
 -- a slot that holds no send end, and one that holds that of mailbox k
 skipped : (t : Table) (x : Slot) {q : Opening} → q ≡ hold_of t x → q ≡ Shut → t ≡ registered t x
@@ -37,18 +32,6 @@ returns-then-not-slot c = skipped _ _ (hold_vacant _ _ (not-true _ c.if-not-slot
 
 pub returns-in_default : goal.returns-in_default
 returns-in_default c = skipped _ _ (gave (goal.at.returns-in_default c).After-open) c.in_default.is
-
-pub offset_bounds-t-k : goal.offset_bounds-t-k
-offset_bounds-t-k c = omega (arith, inside (goal.at.offset_bounds-t-k c).In-Opens)
-
-pub bounds-t-k : goal.bounds-t-k
-bounds-t-k c = omega (arith, inside (goal.at.bounds-t-k c).In-Opens)
-
-pub offset_bounds-t-k-2 : goal.offset_bounds-t-k-2
-offset_bounds-t-k-2 c = omega (arith, inside (goal.at.offset_bounds-t-k-2 c).In-Opens)
-
-pub bounds-t-k-2 : goal.bounds-t-k-2
-bounds-t-k-2 c = omega (arith, inside (goal.at.bounds-t-k-2 c).In-Opens)
 
 pub returns : goal.returns
 returns c = added _ _ _ _ (gave (goal.at.returns c).After-open) c.in-Opens.is c.more.ensures

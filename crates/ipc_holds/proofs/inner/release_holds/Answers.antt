@@ -1,5 +1,6 @@
 -- `ipc_holds::inner::release_holds` meets its contract. The loop's invariant: the table is sound, the waiters answered so far stand first, and
 -- releasing what is left of the slots in it gives, after them, what releasing all four gives. Assumes nothing.
+use Rattle.std.specs.Prelude.{Ok}
 use mathlib.Core.Path.{◌≡◌, refl, sym, ap, ◌∙◌}
 use mathlib.Core.Bool.{true, false}
 use mathlib.Core.List.{List, [], ◌∷◌, ◌++◌, append_assoc, append-nil}
@@ -15,7 +16,6 @@ use Rattle.laws.proofs.Lists.{unmapped}
 use Rattle.cap.specs.Slot.{vacant_slot}
 use Rattle.cap.specs.declared.slot.Slot.{Slot}
 use Rattle.ipc_rules.specs.State.{nobody, mailbox_at, with_mailbox, with_waiter}
-use Rattle.ipc_rules.specs.Sound.{Sound}
 use Rattle.ipc_rules.specs.Opening.{hold_of}
 use Rattle.ipc_rules.specs.Holds.{Freed, fewer, reaps, released, released_all, four_of, release_of}
 use Rattle.ipc_rules.specs.declared.state.Mailbox.{Mailbox}
@@ -24,28 +24,19 @@ use Rattle.ipc_rules.specs.declared.state.Table.{Table}
 use Rattle.ipc_rules.specs.declared.opening.Opening.{Opening}
 use Rattle.ipc_rules.specs.declared.opening.Opening.TheVariants.{Opens, Shut}
 use Rattle.ipc_rules.specs.declared.answers.Releasing.{Releasing}
-use Rattle.ipc_rules.specs.declared.answers.ReleaseAnswer.TheVariants.{Released}
-use Rattle.ipc_rules.proofs.Openings.{shut, opens, hold_gave, hold_vacant, hold_within, Within}
+use Rattle.ipc_rules.proofs.Openings.{shut, opens, hold_gave, hold_vacant}
 use Rattle.ipc_rules.proofs.KeepsCalls.{released_kept}
 use Rattle.ipc_holds.proofs.inner.release_holds.Invariants.{Releases}
 use Rattle.ipc_holds.proofs.inner.release_holds.Goals as goal
-use Rattle.ipc_holds.proofs.inner.release_holds.Goals.{After-open, In-Opens, In-loop-n}
+use Rattle.ipc_holds.proofs.inner.release_holds.Goals.{After-open, In-Opens, In-loop-slot, then-reaps, else-reaps}
 
-left : (c : In-loop-n) → c.loop-n.n < length c.args.slots
-left c = let f = c.loop-n.invariant.1 in let l : c.loop-n.n < 4 = c.loop-n-test.true in omega arith
+-- a slot is left
+left : (c : In-loop-slot) → c.loop-slot.slot-index < length c.args.slots
+left c = let four : length c.args.slots ≡ 4 = search (rules, unmapped) in omega arith
 
-gave : (c : After-open) → c.open.result ≡ hold_of c.loop-n.t (get_or c.args.slots c.loop-n.n vacant_slot)
-gave c = hold_gave _ _ _ c.loop-n.invariant.2.sound _ (not-false _ c.if-not-slot.false) c.index-i.ensures c.open.ensures
-
--- what opened is a live mailbox within the arrays, a slot is left, and the waiters so far are fewer than four
-inside : (c : In-Opens) → Within c.loop-n.t c.in-Opens.k
-inside c = hold_within _ _ _ c.loop-n.invariant.2.sound (sym (hold_gave _ _ _ c.loop-n.invariant.2.sound _ (not-false _ c.if-not-slot.false) c.index-i.ensures c.open.ensures) ∙ c.in-Opens.is)
-
-room : (c : In-loop-n) → c.loop-n.woken < 4
-room c = let r = c.loop-n.invariant.2 in let m = r.many in let f = r.few in omega arith
-
-start : (t : Table) (xs : List Slot) → Sound t → Releases t xs 0 t (four_of []) 0
-start t xs s = record { sound = s; so_far = []; table = refl; all = refl; places = refl; many = refl; few = omega arith }
+-- what `open` gave is what the rule asks of a slot that is not vacant
+gave : (c : After-open) → c.open.result ≡ hold_of c.loop-slot.t (get_or c.args.slots c.loop-slot.slot-index vacant_slot)
+gave c = hold_gave _ _ _ c.loop-slot.invariant.sound _ (not-false _ c.if-not-slot.false) c.index-i.ensures c.open.ensures
 
 -- a turn: the next slot is released, and what that wakes stands after the waiters so far
 module _ {t₀ : Table} {xs : List Slot} {n : ℕ} {t : Table} {waiters : List Waiter} {woken : ℕ} (r : Releases t₀ xs n t waiters woken) (x : Slot) (l : n < length xs) (e : x ≡ get_or xs n vacant_slot) where
@@ -88,7 +79,7 @@ module _ {t₀ : Table} {xs : List Slot} {n : ℕ} {t : Table} {waiters : List W
         next (a ∷ c ∷ d ∷ []) w h = refl
         next (a ∷ c ∷ d ∷ e ∷ ws) w h = absurd (omega arith)
 
-done : (t₀ : Table) (xs : List Slot) (n : ℕ) {t : Table} {waiters : List Waiter} {woken : ℕ} → length xs ≤ n → Releases t₀ xs n t waiters woken → ◌≡◌ {A = Releasing} (record { answer = Released; waiters = waiters; table = t }) (release_of t₀ xs)
+done : (t₀ : Table) (xs : List Slot) (n : ℕ) {t : Table} {waiters : List Waiter} {woken : ℕ} → length xs ≤ n → Releases t₀ xs n t waiters woken → ◌≡◌ {A = Releasing} (record { answer = Ok tt; waiters = waiters; table = t }) (release_of t₀ xs)
 unfolding release_of released_all
 done t₀ xs n {t} {waiters} {woken} l r =
     let z = drop_of_length-le xs l in
@@ -96,57 +87,23 @@ done t₀ xs n {t} {waiters} {woken} l r =
     let w : r.so_far ≡ (released_all t₀ xs).woken = rw append-nil at (rw z at r.all) in
     rw (r.places, w, p)
 
-pub loop-n-init : goal.loop-n-init
-loop-n-init c =
-    let four : length c.args.slots ≡ 4 = search (rules, unmapped) in
-    (search rules, four, start _ _ c.requires)
+pub loop-slot-preserved-then-not-slot : goal.loop-slot-preserved-then-not-slot
+loop-slot-preserved-then-not-slot c =
+    skipped c.loop-slot.invariant _ (left (goal.at.loop-slot-preserved-then-not-slot c).In-loop-slot) refl (hold_vacant _ _ (not-true _ c.if-not-slot.true)) refl
 
-pub loop-n-preserved-then-not-slot : goal.loop-n-preserved-then-not-slot
-loop-n-preserved-then-not-slot c =
-    let i = c.loop-n.invariant in
-    (search rules, i.1, skipped i.2 _ (left (goal.at.loop-n-preserved-then-not-slot c).In-loop-n) refl (hold_vacant _ _ (not-true _ c.if-not-slot.true)) refl)
+pub loop-slot-preserved-in_default : goal.loop-slot-preserved-in_default
+loop-slot-preserved-in_default c =
+    skipped c.loop-slot.invariant _ (left (goal.at.loop-slot-preserved-in_default c).In-loop-slot) refl (gave (goal.at.loop-slot-preserved-in_default c).After-open) c.in_default.is
 
-pub loop-n-preserved-in_default : goal.loop-n-preserved-in_default
-loop-n-preserved-in_default c =
-    let i = c.loop-n.invariant in
-    (search rules, i.1, skipped i.2 _ (left (goal.at.loop-n-preserved-in_default c).In-loop-n) refl (gave (goal.at.loop-n-preserved-in_default c).After-open) c.in_default.is)
-
-pub offset_bounds-t-k : goal.offset_bounds-t-k
-offset_bounds-t-k c = omega (arith, inside (goal.at.offset_bounds-t-k c).In-Opens)
-
-pub bounds-t-k : goal.bounds-t-k
-bounds-t-k c = omega (arith, inside (goal.at.bounds-t-k c).In-Opens)
-
-pub offset_bounds-waiters-woken : goal.offset_bounds-waiters-woken
-offset_bounds-waiters-woken c = omega (arith, room (goal.at.offset_bounds-waiters-woken c).In-loop-n)
-
-pub bounds-waiters-woken : goal.bounds-waiters-woken
-bounds-waiters-woken c = room (goal.at.bounds-waiters-woken c).In-loop-n
-
-pub overflow_add-woken : goal.overflow_add-woken
-overflow_add-woken c = omega (arith, room (goal.at.overflow_add-woken c).In-loop-n)
-
-pub offset_bounds-t-k-then-reaps : goal.offset_bounds-t-k-then-reaps
-offset_bounds-t-k-then-reaps c = omega (arith, inside (goal.at.offset_bounds-t-k-then-reaps c).In-Opens)
-
-pub bounds-t-k-then-reaps : goal.bounds-t-k-then-reaps
-bounds-t-k-then-reaps c = omega (arith, inside (goal.at.bounds-t-k-then-reaps c).In-Opens)
-
-pub loop-n-preserved-then-reaps : goal.loop-n-preserved-then-reaps
-loop-n-preserved-then-reaps c =
-    let i = c.loop-n.invariant in
-    (search rules, i.1, reaped i.2 _ (left (goal.at.loop-n-preserved-then-reaps c).In-loop-n) refl _ _ (gave (goal.at.loop-n-preserved-then-reaps c).After-open) c.in-Opens.is c.fewer-b.ensures (sym c.reaps.ensures ∙ c.if-reaps.true) (room (goal.at.loop-n-preserved-then-reaps c).In-loop-n))
-
-pub offset_bounds-t-k-in-loop-n : goal.offset_bounds-t-k-in-loop-n
-offset_bounds-t-k-in-loop-n c = omega (arith, inside (goal.at.offset_bounds-t-k-in-loop-n c).In-Opens)
-
-pub bounds-t-k-in-loop-n : goal.bounds-t-k-in-loop-n
-bounds-t-k-in-loop-n c = omega (arith, inside (goal.at.bounds-t-k-in-loop-n c).In-Opens)
-
-pub loop-n-preserved : goal.loop-n-preserved
-loop-n-preserved c =
-    let i = c.loop-n.invariant in
-    (search rules, i.1, kept i.2 _ (left (goal.at.loop-n-preserved c).In-loop-n) refl _ _ (gave (goal.at.loop-n-preserved c).After-open) c.in-Opens.is c.fewer-b.ensures (sym c.reaps.ensures ∙ c.if-reaps.false))
+pub loop-slot-preserved : goal.loop-slot-preserved
+loop-slot-preserved c =
+    let i = c.loop-slot.invariant in
+    let l = left (goal.at.loop-slot-preserved c).In-loop-slot in
+    let g = gave (goal.at.loop-slot-preserved c).After-open in
+    elim c.if-reaps.branch [
+      | then-reaps w ↦ rw (w.t-is, w.waiters-is, w.woken-is) (reaped i _ l refl _ _ g c.in-Opens.is c.fewer.ensures (sym c.reaps.ensures ∙ w.if-reaps.true) (omega (arith, i.few, i.many)))
+      | else-reaps w ↦ rw (w.t-is, w.waiters-is, w.woken-is) (kept i _ l refl _ _ g c.in-Opens.is c.fewer.ensures (sym c.reaps.ensures ∙ w.if-reaps.false))
+    ]
 
 pub returns : goal.returns
-returns c = let i = c.loop-n.invariant in let f = i.1 in let l : 4 ≤ c.loop-n.n = c.loop-n-test.false in done _ _ _ (omega arith) i.2
+returns c = let four : length c.args.slots ≡ 4 = search (rules, unmapped) in done _ _ _ (omega arith) c.loop-slot.invariant

@@ -1,7 +1,7 @@
--- What each turn of `release_holds` keeps, and what falls.
+-- What each turn of `release_holds` keeps.
 use mathlib.Core.Path.{◌≡◌}
 use mathlib.Core.List.{List, ◌++◌}
-use Prim.Native.Nat.{ℕ, ◌-◌, ◌≤◌}
+use Prim.Native.Nat.{ℕ, ◌≤◌}
 use lib.ListN.{length, drop}
 use Rattle.cap.specs.declared.slot.Slot.{Slot}
 use Rattle.ipc_rules.specs.Sound.{Sound}
@@ -19,8 +19,5 @@ pub record Releases (t₀ : Table) (xs : List Slot) (n : ℕ) (t : Table) (waite
   pub many : woken ≡ length so_far
   pub few : length so_far ≤ n
 
-abbrev pub invariant-loop-n : goal.invariant-loop-n
-invariant-loop-n l = (l.n ≤ 4) × (length l.slots ≡ 4) × Releases l.initial.t l.slots l.n l.t l.waiters l.woken
-
-abbrev pub decreases-loop-n : goal.decreases-loop-n
-decreases-loop-n l = 4 - l.n
+abbrev pub invariant-loop-slot : goal.invariant-loop-slot
+invariant-loop-slot l = Releases l.initial.t l.fn.slots l.slot-index l.t l.waiters l.woken

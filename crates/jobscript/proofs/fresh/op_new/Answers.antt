@@ -6,9 +6,9 @@ pub returns-in_default : goal.returns-in_default
 returns-in_default c = new_not_sized _ _ c.sizes-z.ensures c.new-made.ensures c.in_default.is c.shown.ensures
 
 pub returns-in_default-answer : goal.returns-in_default-answer
-returns-in_default-answer c = new_not_bound _ _ c.sizes-z.ensures c.new-made.ensures c.in-Made.is c.index_at.ensures
+returns-in_default-answer c = new_not_bound _ _ c.sizes-z.ensures c.new-made.ensures c.in-Ok.is c.index_at.ensures
     c.variants.ensures c.make-bound.ensures c.shown-shown.ensures c.in_default-answer.is
 
 pub returns : goal.returns
-returns c = new_made _ _ c.sizes-z.ensures c.new-made.ensures c.in-Made.is c.index_at.ensures
-    c.variants.ensures c.make-bound.ensures c.shown-shown.ensures c.in-Made-answer.is c.new.ensures
+returns c = new_made _ _ c.sizes-z.ensures c.new-made.ensures c.in-Ok.is c.index_at.ensures
+    c.variants.ensures c.make-bound.ensures c.shown-shown.ensures c.in-Ok-answer.is c.new.ensures

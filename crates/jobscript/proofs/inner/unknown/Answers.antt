@@ -5,4 +5,4 @@ use Rattle.jobscript.specs.Done.{outcome}
 use Rattle.jobscript.proofs.inner.unknown.Goals as goal
 
 pub returns : goal.returns
-returns c = ap (λ (s : Shown). outcome s c.args.desk) c.none.ensures
+returns c = ap (λ (s : Shown). outcome s c.args.desk) c.new.ensures

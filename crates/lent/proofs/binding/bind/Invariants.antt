@@ -1,12 +1,7 @@
--- What is gathered, over the records still to come, is what is gathered of all of them.
-use Rattle.std.proofs.Common.{length, ◌-◌, ◌≡◌}
-use lib.ListN.{drop}
-use Rattle.walks.specs.Over.{over}
-use Rattle.lent.specs.Binding.{gathered}
+-- What each slot has found is what the records passed have at the index that it wants.
+use Rattle.std.proofs.Common.{◌≡◌, take}
+use Rattle.lent.specs.Binding.{found_all}
 use Rattle.lent.proofs.binding.bind.Given as goal
 
-abbrev pub invariant-loop-i : goal.invariant-loop-i
-invariant-loop-i l = over gathered l.g (drop l.i l.held) ≡ over gathered l.initial.g l.held
-
-abbrev pub decreases-loop-i : goal.decreases-loop-i
-decreases-loop-i l = length l.held - l.i
+abbrev pub invariant-loop-at : goal.invariant-loop-at
+invariant-loop-at l = l.found ≡ found_all l.entry (take l.at l.held)

@@ -1,12 +1,9 @@
 -- `lent::binding::taken` meets its contract. Assumes nothing.
 use Rattle.laws.proofs.Cases.{cases}
-use Rattle.lent.specs.Binding.{taken}
 use Rattle.lent.proofs.binding.taken.Goals as goal
 
-pub returns-then-want-at : goal.returns-then-want-at
-unfolding taken
-returns-then-want-at c = search cases
+pub returns-in-Some : goal.returns-in-Some
+returns-in-Some c = rw c.in-Some.is (search cases)
 
-pub returns : goal.returns
-unfolding taken
-returns c = search cases
+pub returns-in_default : goal.returns-in_default
+returns-in_default c = rw c.in-Some.is (search cases)

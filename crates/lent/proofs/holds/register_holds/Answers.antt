@@ -1,23 +1,30 @@
--- `lent::holds::register_holds` meets its contract. Assumes nothing.
-use mathlib.Core.Path.{refl, sym, ◌∙◌, ap, subst}
-use Rattle.walks.specs.Over.{over}
-use Rattle.walks.proofs.Turns.{turned, passed}
-use Rattle.lent.specs.Holds.{Tested, held, finished}
-use Rattle.lent.specs.declared.holds.Holding.{Holding}
-use Rattle.lent.proofs.Registering.{register_same, begun_tested, held_tested}
+-- `lent::holds::register_holds` meets its contract: a sound table stays sound, and each record of the list is registered in its turn.
+-- Assumes nothing.
+use mathlib.Core.Path.{◌≡◌, sym, ap, ◌∙◌, subst}
+use lib.ListN.{drop_of_length-le}
+use Rattle.std.proofs.lemmas.List.{drop_more}
+use Rattle.laws.proofs.Cases.{cases}
+use Rattle.cap.specs.Slot.{vacant_slot}
+use Rattle.ipc_rules.specs.Holds.{registered_all}
+use Rattle.ipc_rules.specs.Sound.{Sound}
+use Rattle.ipc_sound.specs.Border.{guarded}
+use Rattle.ipc_rules.proofs.KeepsCalls.{registered_kept}
 use Rattle.lent.proofs.holds.register_holds.Goals as goal
 
-pub loop-i-init : goal.loop-i-init
-loop-i-init c = (refl, subst Tested (sym c.begin-h.ensures) (begun_tested c.args.t))
+pub returns-then-not-sound : goal.returns-then-not-sound
+unfolding guarded
+returns-then-not-sound c = rw (← c.sound.ensures.0) (search cases)
 
-pub loop-i-preserved : goal.loop-i-preserved
-loop-i-preserved c = (
-  turned held c.loop-i.h c.args.slots.now c.loop-i.i _ c.loop-i-test.true c.hold-h.ensures ∙ c.loop-i.invariant.0,
-  subst Tested (sym c.hold-h.ensures) (held_tested c.loop-i.h _ c.loop-i.invariant.1),
+pub loop-slot-preserved : goal.loop-slot-preserved
+unfolding registered_all
+loop-slot-preserved c = (
+  rw c.register_one-table.ensures (sym (ap (registered_all c.loop-slot.table) (drop_more c.args.slots.now c.loop-slot.slot-index vacant_slot c.loop-slot-test.true)) ∙ c.loop-slot.invariant.0),
+  subst Sound (sym c.register_one-table.ensures) (registered_kept c.loop-slot.table _ c.loop-slot.invariant.1),
 )
 
 pub returns : goal.returns
+unfolding guarded registered_all
 returns c =
-    c.finish.ensures
-    ∙ ap finished (sym (passed held c.loop-i.h c.args.slots.now c.loop-i.i c.loop-i-test.false) ∙ c.loop-i.invariant.0 ∙ ap (λ (h : Holding). over held h c.args.slots.now) c.begin-h.ensures)
-    ∙ register_same c.args.t c.args.slots.now
+    let e : c.loop-slot.table ≡ registered_all c.args.t c.args.slots.now =
+    ap (registered_all c.loop-slot.table) (sym (drop_of_length-le c.args.slots.now c.loop-slot-test.false)) ∙ c.loop-slot.invariant.0 in
+    rw (← c.sound.ensures.0, e) (search cases)

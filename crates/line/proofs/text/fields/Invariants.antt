@@ -1,14 +1,10 @@
--- What each turn of `fields` keeps, and what falls.
-use mathlib.Core.Path.{◌≡◌}
-use mathlib.Core.List.{◌++◌}
-use Prim.Native.Nat.{◌+◌, ◌*◌, ◌-◌, ◌≤◌}
-use lib.ListN.{length, take}
+-- What each turn of `fields` keeps.
+use Rattle.std.proofs.Common.{◌≡◌, ◌+◌, ◌*◌, ◌≤◌, ◌++◌, take}
 use Rattle.line.specs.Line.{spaced_of}
 use Rattle.line.proofs.text.fields.Given as goal
 
-abbrev pub invariant-loop-i : goal.invariant-loop-i
-invariant-loop-i l =
-    (l.i ≤ l.count) × (l.end ≤ l.at + 21 * l.i) × (length l.out ≡ length l.initial.out) × (take l.end l.out ≡ take l.at l.initial.out ++ spaced_of (take l.i l.values))
-
-abbrev pub decreases-loop-i : goal.decreases-loop-i
-decreases-loop-i l = l.count - l.i
+abbrev pub invariant-loop-value : goal.invariant-loop-value
+invariant-loop-value l = record {
+  within : l.end ≤ l.at + 21 * l.value-index;
+  text : take l.end l.out ≡ take l.at l.initial.out ++ spaced_of (take l.value-index l.values);
+}

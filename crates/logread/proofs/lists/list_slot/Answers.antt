@@ -1,4 +1,7 @@
 -- `logread::lists::list_slot` meets its contract. Assumes nothing.
+use Rattle.std.proofs.Common.{arith}
+use Rattle.std.proofs.lemmas.Grind.{common_steps}
+use Rattle.laws.specs.Pick.{pick}
 use Rattle.laws.proofs.Cases.{cases}
 use Rattle.logread.specs.Lists.{list_slot}
 use Rattle.logread.proofs.Past.{slot_past}
@@ -17,5 +20,5 @@ unfolding list_slot
 returns-then-byte_at-eq0 c = rw (← c.byte_at.ensures) (search cases)
 
 pub returns : goal.returns
-unfolding list_slot
-returns c = rw (← c.byte_at.ensures, ← c.u32_at-raw.ensures) (search cases)
+unfolding list_slot pick
+returns c = grind (arith, common_steps)

@@ -6,4 +6,4 @@ use Rattle.operations.proofs.holds.op_release.Goals as goal
 pub returns : goal.returns
 unfolding release_done
 returns c = rw (← c.list_slots.ensures)
-    (packs (after_release c.args.t) c.release_holds-released.ensures c.shown.ensures)
+    (packs (after_release c.args.t) c.release_holds-released.ensures c.woken_shown.ensures)

@@ -5,4 +5,4 @@ use Rattle.operations.specs.Done.{outcome}
 use Rattle.operations.proofs.inner.unknown.Goals as goal
 
 pub returns : goal.returns
-returns c = ap (λ (s : Shown). outcome s c.args.t) c.none.ensures
+returns c = ap (λ (s : Shown). outcome s c.args.t) c.new.ensures

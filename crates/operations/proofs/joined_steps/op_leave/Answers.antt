@@ -6,4 +6,4 @@ use Rattle.operations.proofs.joined_steps.op_leave.Goals as goal
 pub returns : goal.returns
 unfolding leave_done
 returns c = rw (← c.index_at.ensures)
-    (packs (after_leave c.args.t) c.leave-left.ensures c.shown.ensures)
+    (packs (after_leave c.args.t) c.leave-left.ensures c.woken_shown.ensures)

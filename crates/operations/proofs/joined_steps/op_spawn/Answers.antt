@@ -6,4 +6,4 @@ use Rattle.operations.proofs.joined_steps.op_spawn.Goals as goal
 pub returns : goal.returns
 unfolding spawn_done
 returns c = rw (← c.index_at.ensures, ← c.list_words-words.ensures)
-    (packs (after_spawn c.args.t) c.spawn-spawned.ensures c.shown.ensures)
+    (packs (after_spawn c.args.t) c.spawn-spawned.ensures c.woken_shown.ensures)

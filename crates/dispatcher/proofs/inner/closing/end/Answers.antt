@@ -5,9 +5,9 @@ use Rattle.dispatcher.proofs.inner.closing.end.Goals as goal
 
 pub returns-in_default : goal.returns-in_default
 unfolding end_of
-returns-in_default c = held_not _ _ c.send_holders.ensures _ _ c.in_default.not-Holders
+returns-in_default c = held_not _ _ c.send_holders.ensures _ _ c.in_default.not-Ok
 
 pub returns : goal.returns
 unfolding end_of
 returns c = rw (c.woken-waiter.ensures, c.revoke_channel-revoked.ensures)
-    (held _ _ c.send_holders.ensures _ _ _ c.in-Holders.is)
+    (held _ _ c.send_holders.ensures _ _ _ c.in-Ok.is)

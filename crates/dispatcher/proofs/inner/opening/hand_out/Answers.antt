@@ -10,7 +10,7 @@ pub give-first-requires : goal.give-first-requires
 give-first-requires c = c.requires.0
 
 pub returns-in_default-empty_slot : goal.returns-in_default-empty_slot
-returns-in_default-empty_slot c = no_second _ _ _ _ _ _ _ c.empty_slot.ensures _ c.in-At.is c.give-first.ensures c.empty_slot-2.ensures c.in_default-empty_slot.is
+returns-in_default-empty_slot c = no_second _ _ _ _ _ _ _ c.empty_slot.ensures _ c.in-Some.is c.give-first.ensures c.empty_slot-2.ensures c.in_default-empty_slot.is
 
 pub give-second-requires : goal.give-second-requires
 give-second-requires c = rw c.give-first.ensures (give_kept _ _ _ _ _ c.requires.0)
@@ -20,4 +20,4 @@ with_job-with-requires c = c.requires.1
 
 pub returns : goal.returns
 returns c = rw c.with_job-with.ensures
-    (gave_both _ _ _ _ _ _ _ c.empty_slot.ensures _ c.in-At.is c.give-first.ensures c.empty_slot-2.ensures _ c.in-At-empty_slot.is c.give-second.ensures)
+    (gave_both _ _ _ _ _ _ _ c.empty_slot.ensures _ c.in-Some.is c.give-first.ensures c.empty_slot-2.ensures _ c.in-Some-empty_slot.is c.give-second.ensures)

@@ -1,17 +1,15 @@
--- `dispatcher::inner::places::free_place` meets its contract. The loop's invariant: from `p` up the search finds what it finds from 0.
--- Assumes nothing.
-use mathlib.Core.Path.{refl}
-use Rattle.laws.proofs.Search.{searching}
+-- `dispatcher::inner::places::free_place` meets its contract: its chain is the search over the places. Assumes nothing.
+use mathlib.Core.Path.{◌∙◌}
+use mathlib.Core.Bool.{not}
+use borrow.Author.Rules.{rules}
+use borrow.Author.Tests.{tests}
+use Rattle.std.proofs.lemmas.Iterator.{YieldsList-from_slice}
+use Rattle.std.proofs.lemmas.Iterator.Search.{position_from_yields_List}
+use Rattle.dispatcher_rules.specs.declared.state.Job.{Job}
+use Rattle.dispatcher_rules.proofs.Chained.{first_closed}
 use Rattle.dispatcher.proofs.inner.places.free_place.Goals as goal
 
-pub loop-p-init : goal.loop-p-init
-loop-p-init c = refl
-
-pub loop-p-preserved : goal.loop-p-preserved
-loop-p-preserved c = search searching
-
-pub returns-then-p-ge-MAX_JOBS : goal.returns-then-p-ge-MAX_JOBS
-returns-then-p-ge-MAX_JOBS c = search searching
-
-pub returns-then-not-job : goal.returns-then-not-job
-returns-then-not-job c = search searching
+pub returns : goal.returns
+returns c =
+    position_from_yields_List (λ (j : Job). not j.«open») _ _ _ c.position.ensures.ran (YieldsList-from_slice c.args.d.jobs cc) (λ x b q k. search (rules, tests))
+    ∙ first_closed c.args.d (search rules)

@@ -1,17 +1,15 @@
 -- `dispatcher::inner::slots::receive` meets its contract: the slot's refusals, or the call on the id that it names. Assumes nothing.
+use Rattle.std.proofs.Common.{rules}
 use mathlib.Core.Path.{refl}
-use Rattle.dispatcher_rules.specs.Slots.{slot_recv_of}
-use Rattle.dispatcher_rules.proofs.Choices.{slot_out, slot_vacant, slot_names}
+use Rattle.std.specs.Prelude.{Err}
+use Rattle.dispatcher_rules.specs.Slots.{slot_received, slot_recv_of}
+use Rattle.dispatcher_rules.proofs.Choices.{slot_refused, slot_names}
 use Rattle.dispatcher.proofs.inner.slots.receive.Goals as goal
 
-pub returns-in-Names : goal.returns-in-Names
+pub returns-in-Ok : goal.returns-in-Ok
 unfolding slot_recv_of
-returns-in-Names c = slot_names _ _ _ _ c.get.ensures c.in-Names.is (rw c.try_recv-received.ensures refl)
+returns-in-Ok c = slot_names _ _ _ _ c.get.ensures c.in-Ok.is (rw c.try_recv-received.ensures refl)
 
-pub returns-in-OutOfRange : goal.returns-in-OutOfRange
+pub returns-in-Err : goal.returns-in-Err
 unfolding slot_recv_of
-returns-in-OutOfRange c = slot_out _ _ _ _ _ c.get.ensures c.in-OutOfRange.is refl
-
-pub returns-in-Vacant : goal.returns-in-Vacant
-unfolding slot_recv_of
-returns-in-Vacant c = slot_vacant _ _ _ _ c.get.ensures c.in-Vacant.is refl
+returns-in-Err c = slot_refused _ (λ x. slot_received (Err x) c.args.d c.args.rows c.args.channels) c.get.ensures c.in-Err.is (search rules)

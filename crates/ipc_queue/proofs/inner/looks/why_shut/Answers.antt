@@ -15,4 +15,4 @@ returns-in_default c = why_passes _ (gave (goal.at.returns-in_default c).After-a
 
 pub returns : goal.returns
 unfolding why_of
-returns c = why_fails _ (gave (goal.at.returns c).After-attempt) c.in-Fails.is
+returns c = why_fails _ (gave (goal.at.returns c).After-attempt) c.in-Err.is

@@ -1,4 +1,5 @@
 -- `joined::inner::leaving::leave` meets its contract. Assumes nothing.
+use Rattle.std.specs.Prelude.{Ok}
 use mathlib.Core.Path.{◌≡◌}
 use Prim.Native.Nat.{ℕ, ◌<◌}
 use borrow.Author.Tests.{lt-leb}
@@ -11,12 +12,11 @@ use Rattle.ipc_rules.specs.declared.state.Table.{Table as Channels}
 use Rattle.ipc_rules.specs.declared.answers.Releasing.{Releasing}
 use Rattle.joined.specs.Steps.{leave_of}
 use Rattle.joined.specs.declared.answers.Leaving.{Leaving}
-use Rattle.joined.specs.declared.answers.LeaveAnswer.TheVariants.{Left}
 use Rattle.joined.proofs.inner.leaving.leave.Goals as goal
 
 -- with a row below 54, what the two calls leave is what the rule gives
 both : (channels : Channels) (rows : Rows) (r : ℕ) {d : Drained} {g : Releasing} → r < 54 → d ≡ drain_of rows r → g ≡ release_of channels d.slots
-    → ◌≡◌ {A = Leaving} (record { answer = Left; waiters = g.waiters; channels = g.table; rows = d.table }) (leave_of channels rows r)
+    → ◌≡◌ {A = Leaving} (record { answer = Ok tt; waiters = g.waiters; channels = g.table; rows = d.table }) (leave_of channels rows r)
 unfolding leave_of
 both channels rows r l d g = no _ (lt-leb 54 r l) (rw (g, d))
 

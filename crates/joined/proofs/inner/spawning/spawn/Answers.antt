@@ -1,5 +1,6 @@
 -- `joined::inner::spawning::spawn` meets its contract: its tests come in the rule's order, and its four calls in the rule's. Assumes
 -- nothing.
+use Rattle.std.specs.Prelude.{Ok, Result, ⊤}
 use mathlib.Core.Path.{◌≡◌, sym, ◌∙◌}
 use mathlib.Core.Bool.{Bool, true}
 use mathlib.Core.List.{List}
@@ -13,7 +14,6 @@ use Rattle.capslots.specs.Rows.{seed_of, drain_of}
 use Rattle.capslots.specs.Table.{row_at}
 use Rattle.capslots.specs.declared.Table.{Table as Rows}
 use Rattle.capslots.specs.declared.Drained.{Drained}
-use Rattle.capslots.specs.declared.Seeded.{Seeded as Seeding}
 use Rattle.ipc_rules.specs.Sound.{Sound}
 use Rattle.ipc_rules.specs.Holds.{registered_all, release_of}
 use Rattle.ipc_rules.specs.declared.state.Table.{Table as Channels}
@@ -21,8 +21,9 @@ use Rattle.ipc_rules.specs.declared.answers.Releasing.{Releasing}
 use Rattle.ipc_rules.proofs.KeepsCalls.{released_all_kept}
 use Rattle.joined.specs.Steps.{spawn_of}
 use Rattle.joined.specs.declared.answers.Spawning.{Spawning}
-use Rattle.joined.specs.declared.answers.SpawnAnswer.TheVariants.{Spawned}
 use Rattle.joined.proofs.inner.spawning.spawn.Goals as goal
+use Rattle.cap.specs.declared.word.WordError.{WordError}
+use Rattle.shown.specs.declared.Answered.{Answered}
 
 -- what a release leaves is sound
 freed_sound : (channels : Channels) (slots : List Slot) {g : Releasing} → g ≡ release_of channels slots → Sound channels → Sound g.table
@@ -30,10 +31,10 @@ unfolding release_of
 freed_sound channels slots g s = rw g (released_all_kept channels slots s)
 
 -- with a list that reads and a row below 54, what the four calls leave is what the rule gives
-all_four : (channels : Channels) (rows : Rows) (r : ℕ) (words : List ℕ) {q : Bool} {d : Drained} {g : Releasing} {s : Seeding} {h : Channels}
+all_four : (channels : Channels) (rows : Rows) (r : ℕ) (words : List ℕ) {q : Bool} {d : Drained} {g : Releasing} {s : Answered (Result ⊤ WordError) Rows} {h : Channels}
     → q ≡ words_read words → q ≡ true → r < 54
     → d ≡ drain_of rows r → g ≡ release_of channels d.slots → s ≡ seed_of d.table r words → h ≡ registered_all g.table (row_at s.table r).slots
-    → ◌≡◌ {A = Spawning} (record { answer = Spawned; waiters = g.waiters; channels = h; rows = s.table }) (spawn_of channels rows r words)
+    → ◌≡◌ {A = Spawning} (record { answer = Ok tt; waiters = g.waiters; channels = h; rows = s.table }) (spawn_of channels rows r words)
 unfolding spawn_of
 all_four channels rows r words {q} e n l d g s h =
     let w = sym e ∙ n in

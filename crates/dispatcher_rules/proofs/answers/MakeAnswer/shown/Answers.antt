@@ -1,7 +1,0 @@
--- `dispatcher_rules::answers::MakeAnswer::shown` meets its contract. Assumes nothing.
-use mathlib.Core.Path.{refl}
-use Rattle.shown.proofs.Shows.{shows}
-use Rattle.dispatcher_rules.proofs.answers.MakeAnswer.shown.Goals as goal
-
-pub returns : goal.returns
-returns c = shows c.none.ensures c.number.ensures refl

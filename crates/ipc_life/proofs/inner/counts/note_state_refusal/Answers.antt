@@ -1,5 +1,0 @@
--- `ipc_life::inner::counts::note_state_refusal` meets its contract. Assumes nothing.
-use Rattle.ipc_life.proofs.inner.counts.note_state_refusal.Goals as goal
-
-pub returns : goal.returns
-returns c = rw c.raised-more.ensures

@@ -1,8 +1,0 @@
--- `shown::five` meets its contract. Assumes nothing.
-use mathlib.Core.Path.{refl}
-use Rattle.shown.specs.Shown.{padded}
-use Rattle.shown.proofs.five.Goals as goal
-
-pub returns : goal.returns
-unfolding padded
-returns c = refl
