@@ -1,5 +1,5 @@
 -- The tables of a log's run are those after its operations, `runs_over`. Assumes nothing.
-use Rattle.std.specs.Prelude.{Err, Ok}
+use Rattle.std.specs.Prelude.{Err, Ok, Result}
 use mathlib.Core.Path.{◌≡◌, refl, subst}
 use mathlib.Core.List.{List, ◌∷◌}
 use Prim.Native.Nat.{ℕ, zero, suc, ◌+◌, ◌-◌, ◌≤◌}
@@ -9,10 +9,9 @@ use lib.Dec.{eqb, ltb}
 use lib.ListN.{length, take, drop}
 use Rattle.laws.proofs.Cases.{all_pick}
 use Rattle.line.specs.Put.{put_of}
-use Rattle.line.specs.declared.Written.{Written}
-use Rattle.line.specs.declared.Written.TheVariants.{Upto, NoRoom as Crowded}
-use Rattle.logread.specs.Read.{read_of}
-use Rattle.logread.specs.declared.Read as read
+use Rattle.line.specs.declared.RoomError.TheVariants.{NoRoom as Crowded}
+use Rattle.logread.specs.Read.{read_of, recorded}
+use Rattle.logread.specs.declared.ReadError.TheVariants as read
 use Rattle.operations.specs.Apply.{apply_of}
 use Rattle.operations.specs.declared.Tables.{Tables}
 use Rattle.oplog.specs.Step.{step_number, reading, writing, text_of, refused_step, step_of}
@@ -21,41 +20,44 @@ use Rattle.oplog.specs.declared.StepError.TheVariants.{NoRoom}
 use Rattle.oplog.specs.declared.Stepped.{Stepped}
 use Rattle.history.specs.Operations.{Logged, operate, operated}
 use Rattle.history.specs.Log.{records_in, RunsOver}
+use Rattle.line.specs.declared.RoomError.{RoomError}
+use Rattle.logread.specs.declared.Record.{Record}
+use Rattle.logread.specs.declared.ReadError.{ReadError}
 
 -- ---- a step that is taken
 -- its record's operation, and the tables that it leaves
 record Takes (log : List ℕ) (t : Tables) (x : Stepped) : Type 0 where
   op : ℕ
   len : ℕ
-  reads : read_of log ≡ read.TheVariants.Whole op len
+  reads : read_of log ≡ Ok (recorded op len)
   used : x.used ≡ len
   tables : x.tables ≡ (apply_of op log t).tables
 
 module _ (log out : List ℕ) (number at : ℕ) (t : Tables) where
-  module _ (op len : ℕ) (er : read_of log ≡ read.TheVariants.Whole op len) where
-    abbrev writes : Written → Stepped
+  module _ (op len : ℕ) (er : read_of log ≡ Ok (recorded op len)) where
+    abbrev writes : Result ℕ RoomError → Stepped
     writes w = writing w (refused_step at t (Err NoRoom)) (λ next. record { answer = Ok tt; used = len; at = next; tables = (apply_of op log t).tables })
 
-    by_writing : (w : Written) → step_number (writes w).answer ≡ 0 → Takes log t (writes w)
+    by_writing : (w : Result ℕ RoomError) → step_number (writes w).answer ≡ 0 → Takes log t (writes w)
     unfolding writing
-    by_writing (Upto next) e = record { op = op; len = len; reads = er; used = refl; tables = refl }
-    by_writing Crowded e = absurd (omega arith)
+    by_writing (Ok next) e = record { op = op; len = len; reads = er; used = refl; tables = refl }
+    by_writing (Err Crowded) e = absurd (omega arith)
 
-  by_reading : (q : read.Read) → read_of log ≡ q → let x : Stepped = reading q (refused_step at t) (λ op len. writing (put_of out at (text_of number op (apply_of op log t))) (refused_step at t (Err NoRoom)) (λ next. record { answer = Ok tt; used = len; at = next; tables = (apply_of op log t).tables })) in
+  by_reading : (q : Result Record ReadError) → read_of log ≡ q → let x : Stepped = reading q (refused_step at t) (λ op len. writing (put_of out at (text_of number op (apply_of op log t))) (refused_step at t (Err NoRoom)) (λ next. record { answer = Ok tt; used = len; at = next; tables = (apply_of op log t).tables })) in
       step_number x.answer ≡ 0 → Takes log t x
   unfolding reading
-  by_reading read.TheVariants.Short er e = absurd (omega arith)
-  by_reading read.TheVariants.BadMark er e = absurd (omega arith)
-  by_reading read.TheVariants.BadOp er e = absurd (omega arith)
-  by_reading read.TheVariants.BadOperand er e = absurd (omega arith)
-  by_reading (read.TheVariants.Whole op len) er e = by_writing op len er _ e
+  by_reading (Err read.Short) er e = absurd (omega arith)
+  by_reading (Err read.BadMark) er e = absurd (omega arith)
+  by_reading (Err read.BadOp) er e = absurd (omega arith)
+  by_reading (Err read.BadOperand) er e = absurd (omega arith)
+  by_reading (Ok r) er e = by_writing r.op r.len er _ e
 
   takes : step_number (step_of log number out at t).answer ≡ 0 → Takes log t (step_of log number out at t)
   unfolding step_of
   takes e = by_reading (read_of log) refl e
 
 -- the records of what is read
-records_read : (k : ℕ) (log : List ℕ) (op len : ℕ) → read_of log ≡ read.TheVariants.Whole op len → records_in (suc k) log ≡ record { number = op; bytes = log } ∷ records_in k (drop len log)
+records_read : (k : ℕ) (log : List ℕ) (op len : ℕ) → read_of log ≡ Ok (recorded op len) → records_in (suc k) log ≡ record { number = op; bytes = log } ∷ records_in k (drop len log)
 unfolding records_in reading
 records_read k log op len er = rw er
 

@@ -1,5 +1,5 @@
 -- What replay prints of a log is the lines of its operations and one more, `logs_print`. Assumes nothing.
-use Rattle.std.specs.Prelude.{Ok}
+use Rattle.std.specs.Prelude.{Ok, Err, Result}
 use mathlib.Core.Path.{◌≡◌, refl, sym, ap, ◌∙◌}
 use mathlib.Core.List.{List, [], ◌∷◌, ◌++◌, append_assoc}
 use Prim.Native.Nat.{ℕ, zero, suc, ◌+◌, ◌≤◌}
@@ -11,7 +11,7 @@ use Rattle.laws.specs.Pick.{pick}
 use Rattle.laws.proofs.Cases.{all_pick}
 use Rattle.line.specs.Line.{bad_of}
 use Rattle.logread.specs.Read.{read_of}
-use Rattle.logread.specs.declared.Read as read
+use Rattle.logread.specs.declared.ReadError.TheVariants as read
 use Rattle.operations.specs.Apply.{apply_of}
 use Rattle.operations.specs.declared.Tables.{Tables}
 use Rattle.oplog.specs.Step.{step_number, reading, text_of}
@@ -19,6 +19,8 @@ use Rattle.oplog.specs.Text.{Said, fault, said_of, text_from, text_at, most}
 use Rattle.history.specs.Operations.{Operation, done_by, Logged, operate, beginning}
 use Rattle.history.specs.Log as log
 use Rattle.history.specs.Log.{records_in, lines_of, Last, finished, Printed, LogsPrint}
+use Rattle.logread.specs.declared.Record.{Record}
+use Rattle.logread.specs.declared.ReadError.{ReadError}
 
 -- ---- what a record comes to, beside the operations that it begins
 data Says (k : ℕ) (rest : List ℕ) (number : ℕ) (t : Tables) (x : Said) (os : List Operation) : Type 0 where
@@ -30,15 +32,15 @@ module _ (k : ℕ) (rest : List ℕ) (number : ℕ) (t : Tables) where
   abbrev Beside : Said → List Operation → Type 0
   Beside x os = Says k rest number t x os
 
-  by_reading : (q : read.Read) → Beside
+  by_reading : (q : Result Record ReadError) → Beside
       (reading q (fault t) (λ op len. record { answer = Ok tt; used = len; text = text_of number op (apply_of op rest t); tables = (apply_of op rest t).tables }))
       (reading q (λ _. []) (λ op len. record { number = op; bytes = rest } ∷ records_in k (drop len rest)))
   unfolding reading
-  by_reading read.TheVariants.Short = faulty (λ e. omega arith) refl
-  by_reading read.TheVariants.BadMark = faulty (λ e. omega arith) refl
-  by_reading read.TheVariants.BadOp = faulty (λ e. omega arith) refl
-  by_reading read.TheVariants.BadOperand = faulty (λ e. omega arith) refl
-  by_reading (read.TheVariants.Whole op len) = taken op refl refl refl refl
+  by_reading (Err read.Short) = faulty (λ e. omega arith) refl
+  by_reading (Err read.BadMark) = faulty (λ e. omega arith) refl
+  by_reading (Err read.BadOp) = faulty (λ e. omega arith) refl
+  by_reading (Err read.BadOperand) = faulty (λ e. omega arith) refl
+  by_reading (Ok r) = taken r.op refl refl refl refl
 
   says : Beside (said_of rest number t) (records_in (suc k) rest)
   unfolding said_of records_in

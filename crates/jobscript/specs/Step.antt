@@ -3,7 +3,7 @@
 use Rattle.std.specs.Prelude.{List, [], ℕ, Err, Ok, Result, ⊤}
 use Rattle.laws.specs.Refusals as no
 use Rattle.shown.specs.Shown.{of_either, shown}
-use Rattle.logread.specs.declared.Read as read
+use Rattle.logread.specs.declared.ReadError.TheVariants as read
 use Rattle.dispatcher_rules.specs.Border.{guarded_by}
 use Rattle.dispatcher_rules.specs.declared.state.Desk.{Desk}
 use Rattle.jobscript.specs.Read.{job_read_of}
@@ -12,6 +12,8 @@ use Rattle.jobscript.specs.Operations.{apply_of}
 use Rattle.jobscript.specs.declared.StepError.TheVariants.{Short, BadMark, BadOp, NoRoom, BadTable}
 use Rattle.jobscript.specs.declared.Stepped.{Stepped}
 use Rattle.jobscript.specs.declared.StepError.{StepError}
+use Rattle.logread.specs.declared.Record.{Record}
+use Rattle.logread.specs.declared.ReadError.{ReadError}
 
 abbrev pub step_error_number : StepError → ℕ
 step_error_number Short = no.short
@@ -23,14 +25,17 @@ step_error_number BadTable = no.bad_table
 abbrev pub step_number : Result ⊤ StepError → ℕ
 step_number = of_either (λ _. no.none) step_error_number
 
--- what follows from reading a record: its fault, or its operation and its length; a script has no ill-formed operands, and would refuse them
--- as it refuses an operation
-unfoldable pub reading : {A : Type 0} → read.Read → (Result ⊤ StepError → A) → (ℕ → ℕ → A) → A
-reading read.TheVariants.Short f g = f (Err Short)
-reading read.TheVariants.BadMark f g = f (Err BadMark)
-reading read.TheVariants.BadOp f g = f (Err BadOp)
-reading read.TheVariants.BadOperand f g = f (Err BadOp)
-reading (read.TheVariants.Whole op len) f g = g op len
+-- the fault of a record is that of the step; a script has no ill-formed operands, and would refuse them as it refuses an operation
+abbrev pub refused_read : ReadError → StepError
+refused_read read.Short = Short
+refused_read read.BadMark = BadMark
+refused_read read.BadOp = BadOp
+refused_read read.BadOperand = BadOp
+
+-- what follows from reading a record: its fault, or its operation and its length
+unfoldable pub reading : {A : Type 0} → Result Record ReadError → (Result ⊤ StepError → A) → (ℕ → ℕ → A) → A
+reading (Err e) f g = f (Err (refused_read e))
+reading (Ok r) f g = g r.op r.len
 
 abbrev pub refused_step : Desk → Result ⊤ StepError → Stepped
 refused_step d a = record { answer = a; used = 0; op = 0; shown = shown (step_number a) []; desk = d }

@@ -8,8 +8,8 @@ use crate::reading::read_record;
 use crate::{Outcome, StepError, Stepped, fresh, jobs, looks, messages, op};
 use dispatcher_rules::state::Desk;
 use laws::refusals;
-use logread::Read;
-use shown::Shown;
+use logread::Record;
+use shown::{Answer, Shown};
 
 // A number that is no operation's changes nothing.
 fn unknown(desk: Desk) -> Outcome
@@ -46,7 +46,7 @@ pub fn step(script: &[u8], desk: Desk) -> Stepped
     ensures { result ≡ step_of script.now desk }
 {
     match read_record(script) {
-        Read::Whole { op, len } => {
+        Ok(Record { op, len }) => {
             let done = apply(op, desk, script);
             let shown = done.shown;
             let after = done.desk;
@@ -58,33 +58,15 @@ pub fn step(script: &[u8], desk: Desk) -> Stepped
                 desk: after,
             }
         }
-        Read::Short => Stepped {
-            answer: Err(StepError::Short),
-            used: 0,
-            op: 0,
-            shown: Shown::new(refusals::SHORT, &[]),
-            desk,
-        },
-        Read::BadMark => Stepped {
-            answer: Err(StepError::BadMark),
-            used: 0,
-            op: 0,
-            shown: Shown::new(refusals::BAD_MARK, &[]),
-            desk,
-        },
-        Read::BadOp => Stepped {
-            answer: Err(StepError::BadOp),
-            used: 0,
-            op: 0,
-            shown: Shown::new(refusals::BAD_OP, &[]),
-            desk,
-        },
-        Read::BadOperand => Stepped {
-            answer: Err(StepError::BadOp),
-            used: 0,
-            op: 0,
-            shown: Shown::new(refusals::BAD_OP, &[]),
-            desk,
-        },
+        Err(fault) => {
+            let refusal = StepError::from(fault);
+            Stepped {
+                answer: Err(refusal),
+                used: 0,
+                op: 0,
+                shown: refusal.shown(),
+                desk,
+            }
+        }
     }
 }

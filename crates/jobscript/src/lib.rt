@@ -5,10 +5,11 @@
 #![tactic(auto)]
 
 ghost use Rattle.std.specs.Prelude.{◌≡◌};
-ghost use Rattle.jobscript.specs.Step.{step_error_number, step_call};
+ghost use Rattle.jobscript.specs.Step.{step_error_number, refused_read, step_call};
 
 use dispatcher_rules::state::Desk;
 use laws::refusals;
+use logread::ReadError;
 use shown::{Answer, Shown};
 
 mod fresh;
@@ -48,6 +49,19 @@ impl Answer for StepError {
 
     fn shown(self) -> Shown {
         Shown::new(self as u8, &[])
+    }
+}
+
+impl From<ReadError> for StepError {
+    ghost from_gives = { λ e r. r ≡ refused_read e };
+
+    fn from(fault: ReadError) -> StepError {
+        match fault {
+            ReadError::Short => StepError::Short,
+            ReadError::BadMark => StepError::BadMark,
+            ReadError::BadOp => StepError::BadOp,
+            ReadError::BadOperand => StepError::BadOp,
+        }
     }
 }
 

@@ -1,4 +1,4 @@
-// The operations of the job script by their numbers, from 0 up.
+// The operations of the job script by their numbers, from 0 up, bytes of the script as those of a log are.
 pub const NEW: u8 = 0;
 
 pub const OPEN: u8 = 1;

@@ -3,7 +3,7 @@ ghost use Rattle.std.specs.Prelude.{◌≡◌};
 ghost use Rattle.jobscript.specs.Read.{job_read_of};
 
 use crate::{lengths, op};
-use logread::Read;
+use logread::{Read, ReadError, Record};
 
 const MARK: [u8; 2] = [75, 74];
 
@@ -13,21 +13,21 @@ pub fn read_record(script: &[u8]) -> Read
     ensures { result ≡ job_read_of script.now }
 {
     if script.len() < 2 {
-        return Read::Short;
+        return Err(ReadError::Short);
     }
     if !script.starts_with(&MARK) {
-        return Read::BadMark;
+        return Err(ReadError::BadMark);
     }
     if script.len() < 3 {
-        return Read::Short;
+        return Err(ReadError::Short);
     }
     let op = script[2];
     if op > op::LAST {
-        return Read::BadOp;
+        return Err(ReadError::BadOp);
     }
     let len = 3 + lengths::operand_length(op);
     if script.len() < len {
-        return Read::Short;
+        return Err(ReadError::Short);
     }
-    Read::Whole { op, len }
+    Ok(Record { op, len })
 }

@@ -1,5 +1,6 @@
 -- A buffer filled with one text after another: what a line's writer does that is lent the free tail, and what all lines come to. Assumes
 -- nothing.
+use Rattle.std.specs.Prelude.{Err, Ok, Result}
 use mathlib.Core.Path.{◌≡◌, sym, ap, ◌∙◌}
 use mathlib.Core.List.{List, [], ◌++◌, append_assoc}
 use Prim.Native.Nat.{ℕ, ◌+◌, ◌-◌, ◌<◌, ◌≤◌}
@@ -10,9 +11,9 @@ use lib.ListN.{length, take, drop, length-append, take-append-drop}
 use lib.Seq.{length-take-le, take_at, drop_at, drop-drop}
 use Rattle.laws.proofs.Cases.{all_pick}
 use Rattle.line.specs.Put.{fits, written, put_of, from_tail}
-use Rattle.line.specs.declared.Written.{Written}
-use Rattle.line.specs.declared.Written.TheVariants.{Upto, NoRoom as Crowded}
+use Rattle.line.specs.declared.RoomError.TheVariants.{NoRoom as Crowded}
 use Rattle.line.proofs.Room as room
+use Rattle.line.specs.declared.RoomError.{RoomError}
 
 -- ---- nothing written
 pub nothing_written : (out : List ℕ) (at : ℕ) → at ≤ length out → out ≡ written out at []
@@ -22,13 +23,13 @@ nothing_written out at h =
 
 -- ---- the tail from `at` on was lent: w is what the line's writer answered, left the tail then
 module _ (out : List ℕ) (at : ℕ) (line : List ℕ) where
-  crowded_out : put_of out at line ≡ Crowded → length out < at + length line
+  crowded_out : put_of out at line ≡ Err Crowded → length out < at + length line
   unfolding put_of
   crowded_out =
-      all_pick (λ (w : Written). w ≡ Crowded → length out < at + length line) (fits out at line) _ _
+      all_pick (λ (w : Result ℕ RoomError). w ≡ Err Crowded → length out < at + length line) (fits out at line) _ _
       (λ _ e. let z : ◌≡◌ {A = ℕ} 0 1 = cc in absurd (omega arith)) (λ f _. leb-false (at + length line) (length out) f)
 
-  module _ (h : at ≤ length out) (left : List ℕ) (w : Written) (ew : w ≡ put_of (take (length out - at) (drop at out)) 0 line)
+  module _ (h : at ≤ length out) (left : List ℕ) (w : Result ℕ RoomError) (ew : w ≡ put_of (take (length out - at) (drop at out)) 0 line)
       (el : left ≡ written (take (length out - at) (drop at out)) 0 line) where
     abbrev whole : List ℕ
     whole = take at out ++ (left ++ drop (length out - at) (drop at out))
@@ -36,13 +37,13 @@ module _ (out : List ℕ) (at : ℕ) (line : List ℕ) where
     back : (from_tail at w ≡ put_of out at line) × (whole ≡ written out at line)
     back = room.lent out at line h ew el
 
-    pub line_stands : (n : ℕ) → w ≡ Upto n → (at + n ≡ at + length line) × (at + length line ≤ length out) × (whole ≡ written out at line)
+    pub line_stands : (n : ℕ) → w ≡ Ok n → (at + n ≡ at + length line) × (at + length line ≤ length out) × (whole ≡ written out at line)
     unfolding from_tail
     line_stands n e =
         let u = room.upto_fits out at line (at + n) (sym back.0 ∙ ap (from_tail at) e) in
         (u.0, omega arith, back.1)
 
-    pub line_crowded : w ≡ Crowded → (length out < at + length line) × (whole ≡ written out at line)
+    pub line_crowded : w ≡ Err Crowded → (length out < at + length line) × (whole ≡ written out at line)
     unfolding from_tail
     line_crowded e = (crowded_out (sym back.0 ∙ ap (from_tail at) e), back.1)
 

@@ -1,5 +1,5 @@
 -- What a record says, by what its step gave; and what is known of it. Assumes nothing.
-use Rattle.std.specs.Prelude.{Err, Result, ⊤}
+use Rattle.std.specs.Prelude.{Err, Result, ⊤, Ok}
 use mathlib.Core.Path.{◌≡◌, refl}
 use mathlib.Core.List.{List, []}
 use Prim.Native.Nat.{ℕ, ◌≤◌}
@@ -7,7 +7,8 @@ use native.Mathlib.Omega.{arith}
 use lib.ListN.{length, take}
 use Rattle.shown.proofs.Read.{shown_read}
 use Rattle.line.specs.Line.{line_of}
-use Rattle.logread.specs.declared.Read as read
+use Rattle.logread.specs.Read.{recorded}
+use Rattle.logread.specs.declared.ReadError.TheVariants as read
 use Rattle.dispatcher_rules.specs.declared.state.Desk.{Desk}
 use Rattle.jobscript.specs.Read.{job_read_of}
 use Rattle.jobscript.specs.Done.{ReadyDesk}
@@ -19,15 +20,17 @@ use Rattle.jobscript.specs.declared.Stepped.{Stepped}
 use Rattle.jobscript.proofs.Records.{whole}
 use Rattle.jobscript.proofs.Applied.{apply_ready, apply_few}
 use Rattle.jobscript.specs.declared.StepError.{StepError}
+use Rattle.logread.specs.declared.Record.{Record}
+use Rattle.logread.specs.declared.ReadError.{ReadError}
 
-pub all_reading : {A : Type 0} (P : A → Type 0) (q : read.Read) (f : Result ⊤ StepError → A) (g : ℕ → ℕ → A) → P (f (Err Short)) → P (f (Err BadMark)) → P (f (Err BadOp)) →
-    ((op len : ℕ) → q ≡ read.TheVariants.Whole op len → P (g op len)) → P (reading q f g)
+pub all_reading : {A : Type 0} (P : A → Type 0) (q : Result Record ReadError) (f : Result ⊤ StepError → A) (g : ℕ → ℕ → A) → P (f (Err Short)) → P (f (Err BadMark)) → P (f (Err BadOp)) →
+    ((op len : ℕ) → q ≡ Ok (recorded op len) → P (g op len)) → P (reading q f g)
 unfolding reading
-all_reading P read.TheVariants.Short f g x y z w = x
-all_reading P read.TheVariants.BadMark f g x y z w = y
-all_reading P read.TheVariants.BadOp f g x y z w = z
-all_reading P read.TheVariants.BadOperand f g x y z w = z
-all_reading P (read.TheVariants.Whole op len) f g x y z w = w op len refl
+all_reading P (Err read.Short) f g x y z w = x
+all_reading P (Err read.BadMark) f g x y z w = y
+all_reading P (Err read.BadOp) f g x y z w = z
+all_reading P (Err read.BadOperand) f g x y z w = z
+all_reading P (Ok r) f g x y z w = w r.op r.len refl
 
 -- ---- the step and what is said of it
 pub record Agrees (number : ℕ) (s : Stepped) (t : Said) : Type 0 where
@@ -37,18 +40,18 @@ pub record Agrees (number : ℕ) (s : Stepped) (t : Said) : Type 0 where
   pub line : step_number s.answer ≡ 0 → line_of number s.op s.shown.number (take s.shown.count s.shown.values) ≡ t.text
 
 module _ (script : List ℕ) (number : ℕ) (d : Desk) where
-  agree : (q : read.Read) → Agrees number (reading q (refused_step d) (λ op len. took_step op len (apply_of op script d))) (reading q (fault d) (λ op len. saying number op len (apply_of op script d)))
+  agree : (q : Result Record ReadError) → Agrees number (reading q (refused_step d) (λ op len. took_step op len (apply_of op script d))) (reading q (fault d) (λ op len. saying number op len (apply_of op script d)))
   unfolding reading
-  agree read.TheVariants.Short = record { same_answer = refl; same_used = refl; same_desk = refl; line = λ e. absurd (omega arith) }
-  agree read.TheVariants.BadMark = record { same_answer = refl; same_used = refl; same_desk = refl; line = λ e. absurd (omega arith) }
-  agree read.TheVariants.BadOp = record { same_answer = refl; same_used = refl; same_desk = refl; line = λ e. absurd (omega arith) }
-  agree read.TheVariants.BadOperand = record { same_answer = refl; same_used = refl; same_desk = refl; line = λ e. absurd (omega arith) }
-  agree (read.TheVariants.Whole op len) =
+  agree (Err read.Short) = record { same_answer = refl; same_used = refl; same_desk = refl; line = λ e. absurd (omega arith) }
+  agree (Err read.BadMark) = record { same_answer = refl; same_used = refl; same_desk = refl; line = λ e. absurd (omega arith) }
+  agree (Err read.BadOp) = record { same_answer = refl; same_used = refl; same_desk = refl; line = λ e. absurd (omega arith) }
+  agree (Err read.BadOperand) = record { same_answer = refl; same_used = refl; same_desk = refl; line = λ e. absurd (omega arith) }
+  agree (Ok one) =
       record {
         same_answer = refl;
         same_used = refl;
         same_desk = refl;
-        line = λ _. rw (shown_read (apply_of op script d).number (apply_of op script d).values (apply_few script d op)) refl;
+        line = λ _. rw (shown_read (apply_of one.op script d).number (apply_of one.op script d).values (apply_few script d one.op)) refl;
       }
 
   pub agrees : Agrees number (step_of script d) (said_of script number d)

@@ -11,8 +11,7 @@ use Rattle.laws.specs.Pick.{pick}
 use Rattle.laws.proofs.Cases.{all_pick}
 use Rattle.line.specs.Line.{line_of, end_of, bad_of}
 use Rattle.line.specs.Put.{written, put_of}
-use Rattle.line.specs.declared.Written.{Written}
-use Rattle.line.specs.declared.Written.TheVariants.{Upto, NoRoom as Crowded}
+use Rattle.line.specs.declared.RoomError.TheVariants.{NoRoom as Crowded}
 use Rattle.dispatcher_rules.specs.declared.state.Desk.{Desk}
 use Rattle.jobscript.specs.Step.{step_number, step_of}
 use Rattle.jobtext.specs.Text.{Said, said_of, last_line}
@@ -25,6 +24,7 @@ use Rattle.jobtext.specs.declared.inner.Told.{Told}
 use Rattle.jobtext.proofs.Filling.{nothing_written, line_stands, line_crowded}
 use Rattle.jobtext.proofs.Saids.{Agrees, agrees, said_silent}
 use Rattle.jobscript.specs.declared.StepError.{StepError}
+use Rattle.line.specs.declared.RoomError.{RoomError}
 
 -- ---- the ways of a record told
 module _ (size at : ℕ) (d : Desk) (s : Said) where
@@ -68,7 +68,7 @@ module _ (script : List ℕ) (number : ℕ) (d : Desk) (out : List ℕ) (at : �
       (tells_fault (length out) at d said s.answer e n, nothing_written out at h ∙ ap (written out at) (sym q))
 
   -- the tail was lent: w is what the line's writer answered, left the tail then
-  module _ (z : step_number s.answer ≡ 0) (left : List ℕ) (w : Written)
+  module _ (z : step_number s.answer ≡ 0) (left : List ℕ) (w : Result ℕ RoomError)
       (ew : w ≡ put_of (take (length out - at) (drop at out)) 0 (line_of number s.op s.shown.number (take s.shown.count s.shown.values)))
       (el : left ≡ written (take (length out - at) (drop at out)) 0 (line_of number s.op s.shown.number (take s.shown.count s.shown.values))) where
     ew' : w ≡ put_of (take (length out - at) (drop at out)) 0 said.text
@@ -80,13 +80,13 @@ module _ (script : List ℕ) (number : ℕ) (d : Desk) (out : List ℕ) (at : �
     zero : step_number said.answer ≡ 0
     zero = ap step_number agreed.same_answer ∙ z
 
-    pub line_told : (n : ℕ) → w ≡ Upto n →
+    pub line_told : (n : ℕ) → w ≡ Ok n →
         (told (Ok tt) s.used (at + n) s.desk ≡ told_of (length out) at d said) × (take at out ++ (left ++ drop (length out - at) (drop at out)) ≡ written out at said.text)
     line_told n e =
         let r = line_stands out at said.text h left w ew' el' n e in
         (rw (r.0, ← agreed.same_used, ← agreed.same_desk) (tells_taken (length out) at d said zero r.1), r.2)
 
-    pub crowded_told : w ≡ Crowded →
+    pub crowded_told : w ≡ Err Crowded →
         (told (Err NoRoom) 0 at d ≡ told_of (length out) at d said) × (take at out ++ (left ++ drop (length out - at) (drop at out)) ≡ written out at said.text)
     crowded_told e =
         let r = line_crowded out at said.text h left w ew' el' e in
@@ -109,10 +109,10 @@ last_fits size at number offset p h =
     all_pick (λ (s : Spoken). at + length s.text ≤ size) _ (spoken (last_line number offset p.done) (Ok tt) p) (spoken [] (Err NoRoom) p) (λ f. leb-true _ _ f)
     (λ _. omega arith)
 
-module _ (out : List ℕ) (at number offset : ℕ) (p : Place) (h : at ≤ length out) (left : List ℕ) (w : Written)
+module _ (out : List ℕ) (at number offset : ℕ) (p : Place) (h : at ≤ length out) (left : List ℕ) (w : Result ℕ RoomError)
     (ew : w ≡ put_of (take (length out - at) (drop at out)) 0 (last_line number offset p.done))
     (el : left ≡ written (take (length out - at) (drop at out)) 0 (last_line number offset p.done)) where
-  pub last_stands : (n : ℕ) → w ≡ Upto n →
+  pub last_stands : (n : ℕ) → w ≡ Ok n →
       (◌≡◌ {A = Part} (record { answer = Ok tt; at = at + n; place = p }) (part_at at (last_in (length out) at number offset p)))
       × (take at out ++ (left ++ drop (length out - at) (drop at out)) ≡ written out at (last_in (length out) at number offset p).text)
   unfolding last_in pick
@@ -121,7 +121,7 @@ module _ (out : List ℕ) (at number offset : ℕ) (p : Place) (h : at ≤ lengt
       let f = le-leb (at + length (last_line number offset p.done)) (length out) r.1 in
       (rw (r.0, f) refl, rw f r.2)
 
-  pub last_crowded : w ≡ Crowded →
+  pub last_crowded : w ≡ Err Crowded →
       (◌≡◌ {A = Part} (record { answer = Err NoRoom; at = at; place = p }) (part_at at (last_in (length out) at number offset p)))
       × (take at out ++ (left ++ drop (length out - at) (drop at out)) ≡ written out at (last_in (length out) at number offset p).text)
   unfolding last_in pick written

@@ -41,13 +41,13 @@ fn tell(script: &[u8], number: u64, out: &mut [u8], at: usize, desk: Desk) -> To
     let shown = s.shown;
     let after = s.desk;
     match line::write_line(&mut out[at..], number, s.op as u64, shown) {
-        Written::Upto(n) => Told {
+        Ok(n) => Told {
             answer: Ok(()),
             used: s.used,
             at: at + n,
             desk: after,
         },
-        Written::NoRoom => Told {
+        Err(_) => Told {
             answer: Err(StepError::NoRoom),
             used: 0,
             at,
@@ -74,12 +74,12 @@ pub fn last(out: &mut [u8], at: usize, number: u8, offset: usize, place: Place) 
     ensures buffer { out.new ≡ written out.old at (last_in (length out.old) at number offset place).text }
 {
     match write_last(&mut out[at..], number, offset, place.done) {
-        Written::Upto(n) => Part {
+        Ok(n) => Part {
             answer: Ok(()),
             at: at + n,
             place,
         },
-        Written::NoRoom => Part {
+        Err(_) => Part {
             answer: Err(StepError::NoRoom),
             at,
             place,

@@ -8,6 +8,7 @@ use manifest::{AgentEntry, BindError, Binding, MAX_SLOTS};
 use std::array;
 
 // The record at the wanted index, once the walk is there.
+#[tactic(auto, unfolding(laws::specs::Pick::pick))]
 fn taken(want: Option<u8>, found: Slot, at: usize, slot: Slot) -> Slot
     ensures { result ≡ taken want found at slot }
 {

@@ -1,4 +1,5 @@
 -- How long a line can be, so that the local buffer holds it and a buffer with that much free has room. Assumes nothing.
+use Rattle.std.specs.Prelude.{Ok}
 use mathlib.Core.Path.{◌≡◌, sym}
 use mathlib.Core.List.{List, [], ◌∷◌}
 use Prim.Native.Nat.{ℕ, zero, suc, ◌+◌, ◌*◌, ◌/◌, ◌%◌, ◌≤◌}
@@ -8,7 +9,6 @@ use lib.ListN.{length, length-append}
 use Rattle.laws.proofs.Cases.{all_pick}
 use Rattle.line.specs.Line.{decimal_in, decimal_of, spaced_of, closed_by, text_of, line_of, end_of, bad_of}
 use Rattle.line.specs.Put.{put_of}
-use Rattle.line.specs.declared.Written.TheVariants.{Upto}
 use Rattle.line.proofs.Room.{has_room}
 
 digits_few : (k n : ℕ) → length (decimal_in k n) ≤ k
@@ -38,6 +38,6 @@ bad_few offset fault = text_few (98 ∷ 97 ∷ 100 ∷ []) (offset ∷ fault ∷
 
 -- where 315 places are free, the line of a record has room
 pub line_has_room : (out : List ℕ) (at number op answer : ℕ) (values : List ℕ) → length values ≤ 12 → at + 315 ≤ length out →
-    put_of out at (line_of number op answer values) ≡ Upto (at + length (line_of number op answer values))
+    put_of out at (line_of number op answer values) ≡ Ok (at + length (line_of number op answer values))
 line_has_room out at number op answer values v h =
     sym (has_room out at (line_of number op answer values) (omega (arith, line_few number op answer values v))).0

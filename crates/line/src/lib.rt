@@ -4,45 +4,43 @@
 
 ghost use Rattle.std.specs.Prelude.{◌≡◌, ◌+◌, ◌*◌, ◌<◌, length, take};
 ghost use Rattle.line.specs.Line.{text_of, line_of, end_of, bad_of};
-ghost use Rattle.line.specs.Put.{written, put_of, written_number};
+ghost use Rattle.line.specs.Put.{written, put_of, room_error_number};
 
-use laws::refusals;
-use shown::Shown;
+use shown::{Answer, Shown};
 
 mod text;
 
 // No line is longer: a number of 20 digits, 14 of them after a space, and the newline.
 const LONGEST: usize = 315;
 
-#[derive(Clone, Copy)]
-pub enum Written {
-    // The line stands before this place of what was lent.
-    Upto(usize),
-    NoRoom,
+// The line stands before this place of what was lent.
+pub type Written = Result<usize, RoomError>;
+
+#[derive(Clone, Copy, PartialEq, Eq)]
+pub enum RoomError {
+    NoRoom = 26,
 }
 
-impl Written {
-    pub fn number(self) -> u8
-        ensures { result ≡ written_number self }
-    {
-        match self {
-            Written::Upto(_) => refusals::NONE,
-            Written::NoRoom => refusals::NO_ROOM,
-        }
+impl Answer for RoomError {
+    ghost number_of = { room_error_number };
+
+    fn shown(self) -> Shown {
+        Shown::new(self as u8, &[])
     }
 }
 
 // The text at the start of the free tail, if all of it fits there; else nothing of it.
+#[tactic(auto, unfolding(crate::specs::Put::put_of, crate::specs::Put::written, laws::specs::Pick::pick))]
 fn put(free: &mut [u8], text: &[u8]) -> Written
     ensures answer { result ≡ put_of free.old 0 text.now }
     ensures buffer { free.new ≡ written free.old 0 text.now }
 {
     let n = text.len();
     if free.len() < n {
-        return Written::NoRoom;
+        return Err(RoomError::NoRoom);
     }
     free[..n].copy_from_slice(text);
-    Written::Upto(n)
+    Ok(n)
 }
 
 // The line of a record, with what is shown of its answer: there are no more than twelve values, whatever its count says.

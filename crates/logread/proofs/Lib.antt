@@ -1,3 +1,4 @@
+pub mod Bytes
 pub mod Numbers
 pub mod Few
 pub mod Records

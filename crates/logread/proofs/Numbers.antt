@@ -4,8 +4,11 @@ use mathlib.Core.Path.{◌≡◌, refl, ap, ◌∙◌}
 use mathlib.Core.List.{List}
 use Prim.Native.Nat.{ℕ, zero, suc, ◌+◌, ◌*◌, ◌^◌, ◌<◌, ◌≤◌}
 use native.Mathlib.Nat.{add-zero, zero-add, suc-add, mul_assoc, one-mul, pow-succ'}
+use native.Mathlib.Numerals.{add-one}
 use native.Mathlib.Omega.{arith}
 use lib.ListN.{length, get_or-eq_default}
+use Rattle.std.specs.Int.{byte_worth, sum_through}
+use Rattle.std.specs.List.{slice_index}
 use Rattle.logread.specs.Little.{byte_at, little_at}
 
 -- the sum of a turn
@@ -32,3 +35,19 @@ pub past : (s : List ℕ) (k at : ℕ) → length s ≤ at → little_at s at k 
 unfolding little_at
 past s zero at h = refl
 past s (suc k) at h = rw (get_or-eq_default s 0 h, past s k (at + 1) (omega arith))
+
+-- ---- a number of k + 1 bytes as std sums it: each byte times its worth
+summed : (s : List ℕ) (at k : ℕ) → sum_through (λ i. byte_worth i (byte_at s (at + i))) k ≡ little_at s at (suc k)
+unfolding little_at
+summed s at zero = simp add-zero
+summed s at (suc k) =
+    let e : little_at s at (suc (suc k)) ≡ little_at s at (suc k) + 256 ^ suc k * (byte_at s (at + suc k) + 256 * 0) = rw add-one at (split s (suc k) 1 at) in
+    omega (arith, summed s at k, e)
+
+same_sum : (f g : ℕ → ℕ) (k : ℕ) → ((i : ℕ) → i < suc k → f i ≡ g i) → sum_through f k ≡ sum_through g k
+same_sum f g zero h = h zero (omega arith)
+same_sum f g (suc k) h = omega (arith, same_sum f g k (λ i l. h i (omega arith)), h (suc k) (omega arith))
+
+pub read_off : (s bytes : List ℕ) (at k : ℕ) → ((i : ℕ) → i < suc k → slice_index bytes i ≡ byte_at s (at + i)) →
+    sum_through (λ i. byte_worth i (slice_index bytes i)) k ≡ little_at s at (suc k)
+read_off s bytes at k h = same_sum _ _ k (λ i l. ap (byte_worth i) (h i l)) ∙ summed s at k

@@ -17,6 +17,7 @@ module _ (log : List ℕ) (at : ℕ) (h : length log ≤ at) where
   no_presence i = get_or-eq_default log 0 (omega arith)
 
   entry_past : (i : ℕ) → entry_ok log at i ≡ true
+  unfolding entry_ok
   entry_past i = rw (no_presence i, past log 4 (at + 5 * i + 1) (omega arith))
 
   pub list_past : true ≡ list_ok log at

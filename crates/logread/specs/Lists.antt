@@ -20,7 +20,7 @@ abbrev pub raw_at : List ℕ → ℕ → ℕ → ℕ
 raw_at log at i = little_at log (at + 5 * i + 1) 4
 
 -- entry i is well formed: its presence byte is a flag, and presence 0 comes with id 0 alone
-abbrev pub entry_ok : List ℕ → ℕ → ℕ → Bool
+unfoldable pub entry_ok : List ℕ → ℕ → ℕ → Bool
 entry_ok log at i = flag_ok (presence_at log at i) && (not (eqb (presence_at log at i) 0) || eqb (raw_at log at i) 0)
 
 -- the four entries from `at` on are well formed

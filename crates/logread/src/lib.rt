@@ -2,9 +2,10 @@
 #![tactic(auto)]
 
 ghost use Rattle.std.specs.Prelude.{◌≡◌};
-ghost use Rattle.logread.specs.Read.{read_of, read_number};
+ghost use Rattle.logread.specs.Read.{read_of, record_values, read_error_number};
 
 use laws::refusals;
+use shown::{Answer, Shown};
 
 mod lengths;
 mod lists;
@@ -15,55 +16,65 @@ mod operands;
 pub use lists::{list_slot, list_slots, list_words};
 pub use little::{byte_at, u16_at, u32_at, u64_at};
 
-const MARK: [u8; 2] = [75, 67];
+const MARK: [u8; 2] = *b"KC";
 
-// What a log starts with: a whole record, or its first fault. `len` counts the whole record, mark and operation included.
+// A whole record. `len` counts all of it, mark and operation included.
 #[derive(Clone, Copy)]
-pub enum Read {
-    Whole { op: u8, len: usize },
-    Short,
-    BadMark,
-    BadOp,
-    BadOperand,
+pub struct Record {
+    pub op: u8,
+    pub len: usize,
 }
 
-impl Read {
-    pub fn number(self) -> u8
-        ensures { result ≡ read_number self }
-    {
-        match self {
-            Read::Whole { op: _, len: _ } => refusals::NONE,
-            Read::Short => refusals::SHORT,
-            Read::BadMark => refusals::BAD_MARK,
-            Read::BadOp => refusals::BAD_OP,
-            Read::BadOperand => refusals::BAD_OPERAND,
-        }
+// What a log starts with: a whole record, or its first fault.
+pub type Read = Result<Record, ReadError>;
+
+#[derive(Clone, Copy, PartialEq, Eq)]
+pub enum ReadError {
+    Short = 24,
+    BadMark = 22,
+    BadOp = 23,
+    BadOperand = 25,
+}
+
+impl Answer for Record {
+    ghost values_of = { record_values };
+
+    fn shown(self) -> Shown {
+        Shown::new(refusals::NONE, &[self.op as u64, self.len as u64])
+    }
+}
+
+impl Answer for ReadError {
+    ghost number_of = { read_error_number };
+
+    fn shown(self) -> Shown {
+        Shown::new(self as u8, &[])
     }
 }
 
 // A byte that is missing is Short only where the mark before it is right, and missing operands only where the operation is known.
+#[tactic(auto, using(crate::proofs::Few::operands_few), unfolding(crate::specs::Read::read_of, laws::specs::Pick::pick))]
 pub fn read_record(log: &[u8]) -> Read
     ensures { result ≡ read_of log.now }
 {
-    if log.len() < 2 {
-        return Read::Short;
+    if log.len() < MARK.len() {
+        return Err(ReadError::Short);
     }
-    if !((log[0] == MARK[0]) & (log[1] == MARK[1])) {
-        return Read::BadMark;
+    if !log.starts_with(&MARK) {
+        return Err(ReadError::BadMark);
     }
-    if log.len() < 3 {
-        return Read::Short;
-    }
-    let op = log[2];
+    let Some(&op) = log.get(2) else {
+        return Err(ReadError::Short);
+    };
     if op > op::LAST {
-        return Read::BadOp;
+        return Err(ReadError::BadOp);
     }
     let len = 3 + lengths::operand_length(op);
     if log.len() < len {
-        return Read::Short;
+        return Err(ReadError::Short);
     }
     if !operands::operands_ok(op, log) {
-        return Read::BadOperand;
+        return Err(ReadError::BadOperand);
     }
-    Read::Whole { op, len }
+    Ok(Record { op, len })
 }

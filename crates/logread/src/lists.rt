@@ -4,6 +4,7 @@ ghost use Rattle.logread.specs.Lists.{flag_ok, entry_ok, list_ok, list_slot, lis
 
 use crate::little::{byte_at, u32_at};
 use cap::{CapId, Slot};
+use std::array;
 
 // How many bytes an entry of a list has.
 const ENTRY: usize = 5;
@@ -14,15 +15,17 @@ pub fn flag_ok(byte: u8) -> bool
     byte <= 1
 }
 
+#[tactic(auto, unfolding(crate::specs::Lists::entry_ok))]
 fn entry_ok(log: &[u8], at: usize, i: usize) -> bool
     requires at_in_bounds { at < length log.now }
     requires i_bound { i < 4 }
     ensures { result ≡ entry_ok log.now at i }
 {
     let place = at + ENTRY * i;
-    let present = byte_at(log, place);
-    let raw = u32_at(log, place + 1);
-    flag_ok(present) & ((present != 0) | (raw == 0))
+    match byte_at(log, place) {
+        0 => u32_at(log, place + 1) == 0,
+        presence => flag_ok(presence),
+    }
 }
 
 // Whether the four entries from `at` on are well formed. Past the log's end all bytes read as 0: four vacant entries.
@@ -32,17 +35,15 @@ pub fn list_ok(log: &[u8], at: usize) -> bool
     if at >= log.len() {
         return true;
     }
-    entry_ok(log, at, 0) & entry_ok(log, at, 1) & entry_ok(log, at, 2) & entry_ok(log, at, 3)
+    (0..4).all(|i| entry_ok(log, at, i))
 }
 
 // Entry `i` of the list from `at` on. There is nothing past the fourth.
+#[tactic(auto, using(crate::proofs::Past::slot_past), unfolding(crate::specs::Lists::list_slot, laws::specs::Pick::pick))]
 pub fn list_slot(log: &[u8], at: usize, i: usize) -> Slot
     ensures { result ≡ list_slot log.now at i }
 {
-    if i >= 4 {
-        return Slot::VACANT;
-    }
-    if at >= log.len() {
+    if i >= 4 || at >= log.len() {
         return Slot::VACANT;
     }
     let place = at + ENTRY * i;
@@ -55,19 +56,12 @@ pub fn list_slot(log: &[u8], at: usize, i: usize) -> Slot
 pub fn list_slots(log: &[u8], at: usize) -> [Slot; 4]
     ensures { result ≡ list_slots log.now at }
 {
-    let a = list_slot(log, at, 0);
-    let b = list_slot(log, at, 1);
-    let c = list_slot(log, at, 2);
-    let d = list_slot(log, at, 3);
-    [a, b, c, d]
+    array::from_fn(|i| list_slot(log, at, i))
 }
 
+// The closure is there since a function of another crate has no contract by its name alone.
 pub fn list_words(log: &[u8], at: usize) -> [u64; 4]
     ensures { result ≡ list_words log.now at }
 {
-    let a = cap::word_of(list_slot(log, at, 0));
-    let b = cap::word_of(list_slot(log, at, 1));
-    let c = cap::word_of(list_slot(log, at, 2));
-    let d = cap::word_of(list_slot(log, at, 3));
-    [a, b, c, d]
+    list_slots(log, at).map(|slot| cap::word_of(slot))
 }

@@ -1,46 +1,38 @@
 // Little-endian numbers at a place of the log. A byte past the end reads as 0.
-ghost use Rattle.std.specs.Prelude.{◌≡◌};
+ghost use Rattle.std.specs.Prelude.{◌≡◌, ℕ, ◌+◌, ◌<◌, length, slice_index};
 ghost use Rattle.logread.specs.Little.{little_at, byte_at};
+
+use std::array;
 
 pub fn byte_at(s: &[u8], at: usize) -> u8
     ensures { result ≡ byte_at s.now at }
 {
-    if at >= s.len() {
-        return 0;
-    }
-    s[at]
+    s.get(at).copied().unwrap_or(0)
 }
 
-// The first byte is tested by itself, so that the places after it are numbers too.
+// The `N` bytes from a place on.
+fn bytes_at<const N: usize>(s: &[u8], at: usize) -> [u8; N]
+    ensures long { length result ≡ N }
+    ensures each { (i : ℕ) → i < N → slice_index result i ≡ byte_at s.now (at + i) }
+{
+    let rest = &s[at.min(s.len())..];
+    array::from_fn(|i| byte_at(rest, i))
+}
+
 pub fn u16_at(s: &[u8], at: usize) -> u16
     ensures { result ≡ little_at s.now at 2 }
 {
-    if at >= s.len() {
-        return 0;
-    }
-    let low = byte_at(s, at);
-    let high = byte_at(s, at + 1);
-    low as u16 + 256 * (high as u16)
+    u16::from_le_bytes(bytes_at(s, at))
 }
 
 pub fn u32_at(s: &[u8], at: usize) -> u32
     ensures { result ≡ little_at s.now at 4 }
 {
-    if at >= s.len() {
-        return 0;
-    }
-    let low = u16_at(s, at);
-    let high = u16_at(s, at + 2);
-    low as u32 + 65536 * (high as u32)
+    u32::from_le_bytes(bytes_at(s, at))
 }
 
 pub fn u64_at(s: &[u8], at: usize) -> u64
     ensures { result ≡ little_at s.now at 8 }
 {
-    if at >= s.len() {
-        return 0;
-    }
-    let low = u32_at(s, at);
-    let high = u32_at(s, at + 4);
-    low as u64 + 4294967296 * (high as u64)
+    u64::from_le_bytes(bytes_at(s, at))
 }

@@ -1,4 +1,4 @@
-// The operations by their numbers, from 0 up.
+// The operations by their numbers, from 0 up. No enum: the number is a byte of the log, which can be any, and indexes the table of lengths.
 pub const NEW: u8 = 0;
 
 pub const CREATE: u8 = 1;

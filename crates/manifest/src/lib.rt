@@ -73,6 +73,7 @@ fn refused(refusal: BindError) -> Binding
 }
 
 // What entry slot `slot` takes: `found` is the place of the held list at the index that it wants, and `held` the list's length.
+#[tactic(auto, unfolding(crate::specs::Bind::choice_from, laws::specs::Pick::pick))]
 pub fn choose(
     want: Option<u8>,
     found: Slot,
@@ -106,6 +107,7 @@ fn taken(choices: [Result<Slot, BindError>; MAX_SLOTS]) -> Result<[Slot; MAX_SLO
 }
 
 // The entry's choices upward, stopping at the first refusal.
+#[tactic(auto, unfolding(crate::specs::Bind::bound))]
 pub fn in_order(choices: [Result<Slot, BindError>; MAX_SLOTS]) -> Binding
     ensures { result ≡ in_order choices }
 {
@@ -134,6 +136,7 @@ fn choices(entry: AgentEntry, held: &[u64]) -> [Result<Slot, BindError>; MAX_SLO
 }
 
 // An index turned into an id by indexing: what is bound was held.
+#[tactic(auto, unfolding(crate::specs::Bind::bind_of, crate::specs::Bind::bind_slots, laws::specs::Pick::pick))]
 pub fn bind(entry: AgentEntry, held: &[u64]) -> Binding
     ensures { result ≡ bind_of entry held.now }
 {

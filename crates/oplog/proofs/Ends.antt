@@ -1,6 +1,6 @@
 -- A replay into buffers of 315 bytes or more comes to its end, `parts_end` and `replays_end`: each part that ends for want of room has gone
 -- forward in the log. Assumes nothing.
-use Rattle.std.specs.Prelude.{Err, Ok}
+use Rattle.std.specs.Prelude.{Err, Ok, Result}
 use mathlib.Core.Path.{◌≡◌, refl, subst}
 use mathlib.Core.List.{List}
 use mathlib.Core.Logic.{◌⊎◌, inl, inr, ⊎_elim}
@@ -11,8 +11,7 @@ use lib.ListN.{length}
 use Rattle.laws.specs.Refusals as no
 use Rattle.laws.proofs.Cases.{all_pick, not_both}
 use Rattle.line.specs.Put.{written, put_of}
-use Rattle.line.specs.declared.Written.{Written}
-use Rattle.line.specs.declared.Written.TheVariants.{Upto, NoRoom as Crowded}
+use Rattle.line.specs.declared.RoomError.TheVariants.{NoRoom as Crowded}
 use Rattle.oplog.specs.Step.{step_number, writing}
 use Rattle.oplog.specs.Text.{most, text_at, start_of}
 use Rattle.oplog.specs.Replay.{place_fits, Filled, filled, last_line, last_of, ending_of, ran_of, replay_of, Placed, Prints}
@@ -22,6 +21,7 @@ use Rattle.oplog.specs.declared.StepError.TheVariants.{NoRoom}
 use Rattle.oplog.specs.declared.replay.Place.{Place}
 use Rattle.oplog.proofs.Printed.{fits, continues, start_placed}
 use Rattle.oplog.proofs.Progress.{moves_on}
+use Rattle.line.specs.declared.RoomError.{RoomError}
 
 -- ---- a part is the last one, or ends for want of room
 abbrev Answered : Filled → Type 0
@@ -34,9 +34,9 @@ last_answered out at number offset p = by (put_of out at line)
     line : List ℕ
     line = last_line number offset p.done
 
-    by : (r : Written) → Answered (writing r (filled (Err NoRoom) at p (written out at line)) (λ n. filled (Ok tt) n p (written out at line)))
-    by (Upto n) = inl refl
-    by Crowded = inr refl
+    by : (r : Result ℕ RoomError) → Answered (writing r (filled (Err NoRoom) at p (written out at line)) (λ n. filled (Ok tt) n p (written out at line)))
+    by (Ok n) = inl refl
+    by (Err Crowded) = inr refl
 
 answered : (log : List ℕ) (p : Place) → Placed log p → (out : List ℕ) → Answered (replay_of log out p)
 unfolding replay_of ending_of

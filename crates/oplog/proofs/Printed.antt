@@ -1,5 +1,5 @@
 -- The parts that a replay puts into the buffers that it is lent are, one after the other, the log's text. Assumes nothing.
-use Rattle.std.specs.Prelude.{Err, Ok}
+use Rattle.std.specs.Prelude.{Err, Ok, Result}
 use mathlib.Core.Path.{◌≡◌, refl, sym, ap, ◌∙◌}
 use mathlib.Core.Bool.{true}
 use mathlib.Core.List.{List, ◌++◌}
@@ -17,8 +17,7 @@ use Rattle.ipc_rules.specs.State.{sizes_of}
 use Rattle.ipc_sound.proofs.Decide.{test_of}
 use Rattle.ipc_rules.proofs.Fresh.{in_range_of, fresh_sound}
 use Rattle.line.specs.Put.{written, put_of}
-use Rattle.line.specs.declared.Written.{Written}
-use Rattle.line.specs.declared.Written.TheVariants.{Upto, NoRoom as Crowded}
+use Rattle.line.specs.declared.RoomError.TheVariants.{NoRoom as Crowded}
 use Rattle.line.proofs.Room.{upto_fits, upto_stands, no_room_keeps, written_length}
 use Rattle.operations.specs.declared.Tables.{Tables}
 use Rattle.oplog.specs.Step.{step_number, writing, step_of, step_out}
@@ -31,6 +30,7 @@ use Rattle.oplog.proofs.Runs.{used, step_kept}
 use Rattle.oplog.proofs.Replays.{is_bad}
 use Rattle.oplog.proofs.Texts.{enough}
 use Rattle.oplog.proofs.RunTexts.{left_of, RunPrints, run_prints}
+use Rattle.line.specs.declared.RoomError.{RoomError}
 
 -- ---- a run keeps its tables sound, and counts no more records than bytes
 pub run_kept : (all k : ℕ) (rest : List ℕ) (done : ℕ) (out : List ℕ) (at : ℕ) (t : Tables) → Sound t.channels → Sound (run_from all k rest done out at t).answer.tables.channels
@@ -67,10 +67,10 @@ module _ (out : List ℕ) (at number offset : ℕ) (p : Place) where
     pub took : f.part.answer ≡ Ok tt → part_of f ≡ take at out ++ text
     pub left : f.part.answer ≡ Err NoRoom → part_of f ≡ take at out
 
-  by_writing : (r : Written) → put_of out at text ≡ r → Closes (writing r (filled (Err NoRoom) at p (written out at text)) (λ n. filled (Ok tt) n p (written out at text)))
+  by_writing : (r : Result ℕ RoomError) → put_of out at text ≡ r → Closes (writing r (filled (Err NoRoom) at p (written out at text)) (λ n. filled (Ok tt) n p (written out at text)))
   unfolding writing
-  by_writing (Upto n) e = record { place = refl; took = λ _. upto_stands out at text n e; left = λ z. absurd (let y = ap step_number z in omega arith) }
-  by_writing Crowded e = record { place = refl; took = λ z. absurd (let y = ap step_number z in omega arith); left = λ _. ap (λ (l : List ℕ). take at l) (no_room_keeps out at text e) }
+  by_writing (Ok n) e = record { place = refl; took = λ _. upto_stands out at text n e; left = λ z. absurd (let y = ap step_number z in omega arith) }
+  by_writing (Err Crowded) e = record { place = refl; took = λ z. absurd (let y = ap step_number z in omega arith); left = λ _. ap (λ (l : List ℕ). take at l) (no_room_keeps out at text e) }
 
   pub closes : Closes (last_of out at number offset p)
   unfolding last_of
@@ -84,10 +84,10 @@ module _ (out : List ℕ) (at number offset : ℕ) (p : Place) (w : at ≤ lengt
   abbrev line : List ℕ
   line = last_line number offset p.done
 
-  written_inside : (r : Written) → put_of out at line ≡ r → Inside (writing r (filled (Err NoRoom) at p (written out at line)) (λ n. filled (Ok tt) n p (written out at line)))
+  written_inside : (r : Result ℕ RoomError) → put_of out at line ≡ r → Inside (writing r (filled (Err NoRoom) at p (written out at line)) (λ n. filled (Ok tt) n p (written out at line)))
   unfolding writing
-  written_inside (Upto n) e = rw (written_length out at line) (upto_fits out at line n e).1
-  written_inside Crowded e = rw (written_length out at line) w
+  written_inside (Ok n) e = rw (written_length out at line) (upto_fits out at line n e).1
+  written_inside (Err Crowded) e = rw (written_length out at line) w
 
   last_inside : Inside (last_of out at number offset p)
   unfolding last_of

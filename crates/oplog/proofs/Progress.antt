@@ -1,6 +1,6 @@
 -- A part of a replay that ends for want of room has taken a record, if its buffer has 315 bytes or more: so the parts come to an end.
 -- Assumes nothing.
-use Rattle.std.specs.Prelude.{Err, Ok}
+use Rattle.std.specs.Prelude.{Err, Ok, Result}
 use mathlib.Core.Path.{◌≡◌, refl, ap, ◌∙◌}
 use mathlib.Core.List.{List}
 use Prim.Native.Nat.{ℕ, zero, suc, ◌+◌, ◌-◌, ◌<◌, ◌≤◌}
@@ -11,15 +11,14 @@ use borrow.Author.Tests.{eqb-true}
 use Rattle.laws.specs.Refusals as no
 use Rattle.laws.proofs.Cases.{all_pick}
 use Rattle.line.specs.Put.{written, put_of, written_number}
-use Rattle.line.specs.declared.Written.{Written}
-use Rattle.line.specs.declared.Written.TheVariants.{Upto, NoRoom as Crowded}
+use Rattle.line.specs.declared.RoomError.TheVariants.{NoRoom as Crowded}
 use Rattle.line.proofs.Room.{has_room, written_length}
 use Rattle.line.proofs.Sizes.{end_few, bad_few, line_few}
 use Rattle.operations.specs.Apply.{apply_of}
 use Rattle.operations.specs.declared.Tables.{Tables}
 use Rattle.operations.proofs.Applied.{apply_few}
 use Rattle.logread.specs.Read.{read_of}
-use Rattle.logread.specs.declared.Read as read
+use Rattle.logread.specs.declared.ReadError.TheVariants as read
 use Rattle.oplog.specs.Step.{step_number, reading, writing, text_of, refused_step, step_of, step_out}
 use Rattle.oplog.specs.Run.{Ended, run_from}
 use Rattle.oplog.specs.Text.{most}
@@ -29,9 +28,12 @@ use Rattle.oplog.specs.declared.Stepped.{Stepped}
 use Rattle.oplog.specs.declared.replay.Place.{Place}
 use Rattle.oplog.proofs.Runs.{used}
 use Rattle.oplog.proofs.Printed.{closes}
+use Rattle.line.specs.declared.RoomError.{RoomError}
+use Rattle.logread.specs.declared.Record.{Record}
+use Rattle.logread.specs.declared.ReadError.{ReadError}
 
 -- ---- a text that fits is written
-fits_written : (out : List ℕ) (at : ℕ) (text : List ℕ) → at + length text ≤ length out → put_of out at text ≡ Crowded → ⊥
+fits_written : (out : List ℕ) (at : ℕ) (text : List ℕ) → at + length text ≤ length out → put_of out at text ≡ Err Crowded → ⊥
 fits_written out at text h e = let z : ◌≡◌ {A = ℕ} 0 26 = ap written_number ((has_room out at text h).0 ∙ e) in omega arith
 
 -- ---- the last line has room where 46 bytes are left
@@ -43,10 +45,10 @@ module _ (out : List ℕ) (at number offset : ℕ) (p : Place) (h : at + 46 ≤ 
   abbrev line : List ℕ
   line = last_line number offset p.done
 
-  by_written : (r : Written) → put_of out at line ≡ r → (writing r (filled (Err NoRoom) at p (written out at line)) (λ n. filled (Ok tt) n p (written out at line))).part.answer ≡ Err NoRoom → ⊥
+  by_written : (r : Result ℕ RoomError) → put_of out at line ≡ r → (writing r (filled (Err NoRoom) at p (written out at line)) (λ n. filled (Ok tt) n p (written out at line))).part.answer ≡ Err NoRoom → ⊥
   unfolding writing
-  by_written (Upto n) e z = let y : ◌≡◌ {A = ℕ} 0 26 = ap step_number z in omega arith
-  by_written Crowded e z = fits_written out at line (let l = last_few number offset p.done in omega arith) e
+  by_written (Ok n) e z = let y : ◌≡◌ {A = ℕ} 0 26 = ap step_number z in omega arith
+  by_written (Err Crowded) e z = fits_written out at line (let l = last_few number offset p.done in omega arith) e
 
   last_room : (last_of out at number offset p).part.answer ≡ Err NoRoom → ⊥
   unfolding last_of
@@ -64,18 +66,18 @@ module _ (log out : List ℕ) (number at : ℕ) (t : Tables) (h : at + 315 ≤ l
     text_fits : at + length text ≤ length out
     text_fits = let l = line_few number op (apply_of op log t).number (apply_of op log t).values (apply_few log t op) in omega arith
 
-    text_written : (w : Written) → put_of out at text ≡ w → Has (writing w (refused_step at t (Err NoRoom)) (λ next. record { answer = Ok tt; used = len; at = next; tables = (apply_of op log t).tables }))
+    text_written : (w : Result ℕ RoomError) → put_of out at text ≡ w → Has (writing w (refused_step at t (Err NoRoom)) (λ next. record { answer = Ok tt; used = len; at = next; tables = (apply_of op log t).tables }))
     unfolding writing
-    text_written (Upto n) e z = omega arith
-    text_written Crowded e z = fits_written out at text text_fits e
+    text_written (Ok n) e z = omega arith
+    text_written (Err Crowded) e z = fits_written out at text text_fits e
 
-  by_record : (q : read.Read) → Has (reading q (refused_step at t) (λ op len. writing (put_of out at (text op len)) (refused_step at t (Err NoRoom)) (λ next. record { answer = Ok tt; used = len; at = next; tables = (apply_of op log t).tables })))
+  by_record : (q : Result Record ReadError) → Has (reading q (refused_step at t) (λ op len. writing (put_of out at (text op len)) (refused_step at t (Err NoRoom)) (λ next. record { answer = Ok tt; used = len; at = next; tables = (apply_of op log t).tables })))
   unfolding reading
-  by_record read.TheVariants.Short z = omega arith
-  by_record read.TheVariants.BadMark z = omega arith
-  by_record read.TheVariants.BadOp z = omega arith
-  by_record read.TheVariants.BadOperand z = omega arith
-  by_record (read.TheVariants.Whole op len) z = text_written op len (put_of out at (text op len)) refl z
+  by_record (Err read.Short) z = omega arith
+  by_record (Err read.BadMark) z = omega arith
+  by_record (Err read.BadOp) z = omega arith
+  by_record (Err read.BadOperand) z = omega arith
+  by_record (Ok r) z = text_written r.op r.len (put_of out at (text r.op r.len)) refl z
 
   step_room : step_number (step_of log number out at t).answer ≡ no.no_room → ⊥
   unfolding step_of
@@ -83,13 +85,13 @@ module _ (log out : List ℕ) (number at : ℕ) (t : Tables) (h : at + 315 ≤ l
 
 -- ---- a step leaves the buffer's length
 module _ (log out : List ℕ) (number at : ℕ) (t : Tables) where
-  by_record_length : (q : read.Read) → length (reading q (λ _. out) (λ op len. written out at (text_of number op (apply_of op log t)))) ≡ length out
+  by_record_length : (q : Result Record ReadError) → length (reading q (λ _. out) (λ op len. written out at (text_of number op (apply_of op log t)))) ≡ length out
   unfolding reading
-  by_record_length read.TheVariants.Short = refl
-  by_record_length read.TheVariants.BadMark = refl
-  by_record_length read.TheVariants.BadOp = refl
-  by_record_length read.TheVariants.BadOperand = refl
-  by_record_length (read.TheVariants.Whole op len) = written_length out at (text_of number op (apply_of op log t))
+  by_record_length (Err read.Short) = refl
+  by_record_length (Err read.BadMark) = refl
+  by_record_length (Err read.BadOp) = refl
+  by_record_length (Err read.BadOperand) = refl
+  by_record_length (Ok r) = written_length out at (text_of number r.op (apply_of r.op log t))
 
   step_length : length (step_out log number out at t) ≡ length out
   unfolding step_out

@@ -1,5 +1,5 @@
 -- The ways of a replay over a lent buffer: a place that is refused, a log that is too long, no room, the last line. Assumes nothing.
-use Rattle.std.specs.Prelude.{Err, Ok}
+use Rattle.std.specs.Prelude.{Err, Ok, Result}
 use mathlib.Core.Path.{◌≡◌, refl}
 use mathlib.Core.Bool.{Bool, true, false, ◌&&◌}
 use mathlib.Core.List.{List, ◌++◌}
@@ -15,8 +15,7 @@ use Rattle.laws.proofs.Every.{and_left, and_right}
 use Rattle.ipc_sound.specs.SoundTest.{sound_test}
 use Rattle.line.specs.Line.{end_of, bad_of}
 use Rattle.line.specs.Put.{written, put_of, from_tail}
-use Rattle.line.specs.declared.Written.{Written}
-use Rattle.line.specs.declared.Written.TheVariants.{Upto, NoRoom as Crowded}
+use Rattle.line.specs.declared.RoomError.TheVariants.{NoRoom as Crowded}
 use Rattle.line.proofs.Room.{whole_tail, lent}
 use Rattle.operations.specs.declared.Tables.{Tables}
 use Rattle.oplog.specs.Step.{step_number, writing}
@@ -27,6 +26,7 @@ use Rattle.oplog.specs.declared.StepError.TheVariants.{NoRoom, BadTable}
 use Rattle.oplog.specs.declared.Ran.{Ran}
 use Rattle.oplog.specs.declared.replay.Place.{Place}
 use Rattle.oplog.specs.declared.replay.Part.{Part}
+use Rattle.line.specs.declared.RoomError.{RoomError}
 
 -- ---- the last line
 module _ (number offset done : ℕ) where
@@ -39,7 +39,7 @@ module _ (number offset done : ℕ) where
   is_bad e = rw (ne_eqb number 0 e) refl
 
 -- the tail from `at` on was lent: w is what writing that line answered, left the tail then
-module _ (out : List ℕ) (at number offset : ℕ) (p : Place) (h : at ≤ length out) (w : Written) (left : List ℕ)
+module _ (out : List ℕ) (at number offset : ℕ) (p : Place) (h : at ≤ length out) (w : Result ℕ RoomError) (left : List ℕ)
     (ew : w ≡ put_of (take (length out - at) (drop at out)) 0 (last_line number offset p.done))
     (el : left ≡ written (take (length out - at) (drop at out)) 0 (last_line number offset p.done)) where
   abbrev whole : List ℕ
@@ -48,11 +48,11 @@ module _ (out : List ℕ) (at number offset : ℕ) (p : Place) (h : at ≤ lengt
   back : (from_tail at w ≡ put_of out at (last_line number offset p.done)) × (whole ≡ written out at (last_line number offset p.done))
   back = lent out at (last_line number offset p.done) h ew el
 
-  pub had_room : (n : ℕ) → w ≡ Upto n → (◌≡◌ {A = Part} (record { answer = Ok tt; at = at + n; place = p }) (last_of out at number offset p).part) × (whole ≡ (last_of out at number offset p).buffer)
+  pub had_room : (n : ℕ) → w ≡ Ok n → (◌≡◌ {A = Part} (record { answer = Ok tt; at = at + n; place = p }) (last_of out at number offset p).part) × (whole ≡ (last_of out at number offset p).buffer)
   unfolding last_of writing from_tail
   had_room n e = (rw (← back.0, e) refl, rw (← back.0, e) back.1)
 
-  pub crowded : w ≡ Crowded → (◌≡◌ {A = Part} (record { answer = Err NoRoom; at = at; place = p }) (last_of out at number offset p).part) × (whole ≡ (last_of out at number offset p).buffer)
+  pub crowded : w ≡ Err Crowded → (◌≡◌ {A = Part} (record { answer = Err NoRoom; at = at; place = p }) (last_of out at number offset p).part) × (whole ≡ (last_of out at number offset p).buffer)
   unfolding last_of writing from_tail
   crowded e = (rw (← back.0, e) refl, rw (← back.0, e) back.1)
 

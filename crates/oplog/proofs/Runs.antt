@@ -7,11 +7,10 @@ use native.Mathlib.Omega.{arith}
 use lib.ListN.{length, take, drop, length-drop}
 use borrow.Author.Tests.{lt-ltb, le-ltb, eq-eqb, ne_eqb}
 use Rattle.laws.specs.Pick.{pick}
-use Rattle.line.specs.declared.Written.{Written}
-use Rattle.line.specs.declared.Written.TheVariants.{Upto, NoRoom as Crowded}
+use Rattle.line.specs.declared.RoomError.TheVariants.{NoRoom as Crowded}
 use Rattle.line.proofs.Room.{whole_tail}
-use Rattle.logread.specs.Read.{read_of}
-use Rattle.logread.specs.declared.Read as read
+use Rattle.logread.specs.Read.{read_of, recorded}
+use Rattle.logread.specs.declared.ReadError.TheVariants as read
 use Rattle.logread.proofs.Records.{whole}
 use Rattle.ipc_rules.specs.Sound.{Sound}
 use Rattle.operations.specs.declared.Tables.{Tables}
@@ -22,24 +21,27 @@ use Rattle.oplog.specs.declared.StepError.TheVariants.{Short, BadMark, BadOp, Ba
 use Rattle.oplog.specs.declared.Stepped.{Stepped}
 use Rattle.oplog.specs.declared.Ran.{Ran}
 use Rattle.oplog.specs.declared.StepError.{StepError}
+use Rattle.line.specs.declared.RoomError.{RoomError}
+use Rattle.logread.specs.declared.Record.{Record}
+use Rattle.logread.specs.declared.ReadError.{ReadError}
 
 -- a part to the end
 pub tail_long : (out : List ℕ) (at : ℕ) → length (take (length out - at) (drop at out)) ≡ length out - at
 tail_long out at = rw (whole_tail out at) (length-drop at out)
 
 -- ---- what a step does to the log and the tables
-all_reading : {A : Type 0} (P : A → Type 0) (q : read.Read) (f : Result ⊤ StepError → A) (g : ℕ → ℕ → A) → P (f (Err Short)) → P (f (Err BadMark)) → P (f (Err BadOp)) → P (f (Err BadOperand)) → ((op len : ℕ) → q ≡ read.TheVariants.Whole op len → P (g op len)) → P (reading q f g)
+all_reading : {A : Type 0} (P : A → Type 0) (q : Result Record ReadError) (f : Result ⊤ StepError → A) (g : ℕ → ℕ → A) → P (f (Err Short)) → P (f (Err BadMark)) → P (f (Err BadOp)) → P (f (Err BadOperand)) → ((op len : ℕ) → q ≡ Ok (recorded op len) → P (g op len)) → P (reading q f g)
 unfolding reading
-all_reading P read.TheVariants.Short f g x y z v w = x
-all_reading P read.TheVariants.BadMark f g x y z v w = y
-all_reading P read.TheVariants.BadOp f g x y z v w = z
-all_reading P read.TheVariants.BadOperand f g x y z v w = v
-all_reading P (read.TheVariants.Whole op len) f g x y z v w = w op len refl
+all_reading P (Err read.Short) f g x y z v w = x
+all_reading P (Err read.BadMark) f g x y z v w = y
+all_reading P (Err read.BadOp) f g x y z v w = z
+all_reading P (Err read.BadOperand) f g x y z v w = v
+all_reading P (Ok r) f g x y z v w = w r.op r.len refl
 
-all_writing : {A : Type 0} (P : A → Type 0) (q : Written) (x : A) (g : ℕ → A) → P x → ((n : ℕ) → P (g n)) → P (writing q x g)
+all_writing : {A : Type 0} (P : A → Type 0) (q : Result ℕ RoomError) (x : A) (g : ℕ → A) → P x → ((n : ℕ) → P (g n)) → P (writing q x g)
 unfolding writing
-all_writing P Crowded x g a b = a
-all_writing P (Upto n) x g a b = b n
+all_writing P (Err Crowded) x g a b = a
+all_writing P (Ok n) x g a b = b n
 
 -- a step that is not refused uses its record, of three bytes or more
 abbrev Used : List ℕ → Stepped → Type 0

@@ -9,11 +9,10 @@ use borrow.Author.Tests.{lt-ltb, le-ltb, eq-eqb, ne_eqb}
 use Rattle.laws.specs.Pick.{pick}
 use Rattle.line.specs.Line.{end_of, bad_of}
 use Rattle.line.specs.Put.{written, put_of}
-use Rattle.line.specs.declared.Written.{Written}
-use Rattle.line.specs.declared.Written.TheVariants.{Upto, NoRoom as Crowded}
+use Rattle.line.specs.declared.RoomError.TheVariants.{NoRoom as Crowded}
 use Rattle.line.proofs.Room.{upto_fits, upto_stands, no_room_keeps, written_length}
 use Rattle.logread.specs.Read.{read_of}
-use Rattle.logread.specs.declared.Read as read
+use Rattle.logread.specs.declared.ReadError.TheVariants as read
 use Rattle.logread.proofs.Records.{whole}
 use Rattle.operations.specs.Apply.{apply_of}
 use Rattle.operations.specs.declared.Tables.{Tables}
@@ -22,6 +21,9 @@ use Rattle.oplog.specs.Text.{Said, fault, said_of, text_from}
 use Rattle.oplog.specs.declared.StepError.TheVariants.{Short, BadMark, BadOp, BadOperand, NoRoom, BadTable}
 use Rattle.oplog.specs.declared.Stepped.{Stepped}
 use Rattle.oplog.specs.declared.StepError.{StepError}
+use Rattle.line.specs.declared.RoomError.{RoomError}
+use Rattle.logread.specs.declared.Record.{Record}
+use Rattle.logread.specs.declared.ReadError.{ReadError}
 
 -- ---- a step
 -- the record was taken and its line stands in the buffer; its line has no room; or it has a fault
@@ -42,21 +44,21 @@ module _ (log out : List ℕ) (number at : ℕ) (t : Tables) where
     abbrev said : Said
     said = record { answer = Ok tt; used = len; text = text; tables = (apply_of op log t).tables }
 
-    by_writing : (w : Written) → put_of out at text ≡ w → Ways said (writing w (refused_step at t (Err NoRoom)) (λ next. record { answer = Ok tt; used = len; at = next; tables = (apply_of op log t).tables })) (written out at text)
+    by_writing : (w : Result ℕ RoomError) → put_of out at text ≡ w → Ways said (writing w (refused_step at t (Err NoRoom)) (λ next. record { answer = Ok tt; used = len; at = next; tables = (apply_of op log t).tables })) (written out at text)
     unfolding writing
-    by_writing (Upto n) e = took refl refl refl refl (upto_stands out at text n e) (rw (written_length out at text) (upto_fits out at text n e).1)
-    by_writing Crowded e = crowded refl (no_room_keeps out at text e)
+    by_writing (Ok n) e = took refl refl refl refl (upto_stands out at text n e) (rw (written_length out at text) (upto_fits out at text n e).1)
+    by_writing (Err Crowded) e = crowded refl (no_room_keeps out at text e)
 
-  by_reading : (q : read.Read) → Ways
+  by_reading : (q : Result Record ReadError) → Ways
       (reading q (fault t) said)
       (reading q (refused_step at t) (λ op len. writing (put_of out at (text op len)) (refused_step at t (Err NoRoom)) (λ next. record { answer = Ok tt; used = len; at = next; tables = (apply_of op log t).tables })))
       (reading q (λ _. out) (λ op len. written out at (text op len)))
   unfolding reading
-  by_reading read.TheVariants.Short = faulty refl (λ e. omega arith) (λ e. omega arith) refl
-  by_reading read.TheVariants.BadMark = faulty refl (λ e. omega arith) (λ e. omega arith) refl
-  by_reading read.TheVariants.BadOp = faulty refl (λ e. omega arith) (λ e. omega arith) refl
-  by_reading read.TheVariants.BadOperand = faulty refl (λ e. omega arith) (λ e. omega arith) refl
-  by_reading (read.TheVariants.Whole op len) = by_writing op len (put_of out at (text op len)) refl
+  by_reading (Err read.Short) = faulty refl (λ e. omega arith) (λ e. omega arith) refl
+  by_reading (Err read.BadMark) = faulty refl (λ e. omega arith) (λ e. omega arith) refl
+  by_reading (Err read.BadOp) = faulty refl (λ e. omega arith) (λ e. omega arith) refl
+  by_reading (Err read.BadOperand) = faulty refl (λ e. omega arith) (λ e. omega arith) refl
+  by_reading (Ok r) = by_writing r.op r.len (put_of out at (text r.op r.len)) refl
 
   pub step_ways : StepWays (said_of log number t) out at t (step_of log number out at t) (step_out log number out at t)
   unfolding said_of step_of step_out
@@ -79,13 +81,13 @@ pub took_number : (a : Result ⊤ StepError) → a ≡ Ok tt → step_number a �
 took_number a e = rw e refl
 
 module _ (log : List ℕ) (number : ℕ) (t : Tables) where
-  by_reading_used : (q : read.Read) → read_of log ≡ q → Used log (reading q (fault t) (said log [] number 0 t))
+  by_reading_used : (q : Result Record ReadError) → read_of log ≡ q → Used log (reading q (fault t) (said log [] number 0 t))
   unfolding reading
-  by_reading_used read.TheVariants.Short r e = absurd (let z = took_number _ e in omega arith)
-  by_reading_used read.TheVariants.BadMark r e = absurd (let z = took_number _ e in omega arith)
-  by_reading_used read.TheVariants.BadOp r e = absurd (let z = took_number _ e in omega arith)
-  by_reading_used read.TheVariants.BadOperand r e = absurd (let z = took_number _ e in omega arith)
-  by_reading_used (read.TheVariants.Whole op len) r e = let w = whole log op len r in (omega (arith, w.counted), w.within)
+  by_reading_used (Err read.Short) r e = absurd (let z = took_number _ e in omega arith)
+  by_reading_used (Err read.BadMark) r e = absurd (let z = took_number _ e in omega arith)
+  by_reading_used (Err read.BadOp) r e = absurd (let z = took_number _ e in omega arith)
+  by_reading_used (Err read.BadOperand) r e = absurd (let z = took_number _ e in omega arith)
+  by_reading_used (Ok one) r e = let w = whole log one.op one.len r in (omega (arith, w.counted), w.within)
 
   pub said_used : step_number (said_of log number t).answer ≡ 0 → (3 ≤ (said_of log number t).used) × ((said_of log number t).used ≤ length log)
   unfolding said_of

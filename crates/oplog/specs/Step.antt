@@ -5,16 +5,17 @@ use Rattle.laws.specs.Refusals as no
 use Rattle.shown.specs.Shown.{of_either}
 use Rattle.line.specs.Line.{line_of}
 use Rattle.line.specs.Put.{written, put_of}
-use Rattle.line.specs.declared.Written.{Written}
-use Rattle.line.specs.declared.Written.TheVariants.{Upto, NoRoom as Crowded}
 use Rattle.logread.specs.Read.{read_of}
-use Rattle.logread.specs.declared.Read as read
+use Rattle.logread.specs.declared.ReadError.TheVariants as read
 use Rattle.operations.specs.Done.{Done}
 use Rattle.operations.specs.Apply.{apply_of}
 use Rattle.operations.specs.declared.Tables.{Tables}
 use Rattle.oplog.specs.declared.StepError.TheVariants.{Short, BadMark, BadOp, BadOperand, NoRoom, BadTable}
 use Rattle.oplog.specs.declared.Stepped.{Stepped}
 use Rattle.oplog.specs.declared.StepError.{StepError}
+use Rattle.line.specs.declared.RoomError.{RoomError}
+use Rattle.logread.specs.declared.Record.{Record}
+use Rattle.logread.specs.declared.ReadError.{ReadError}
 
 abbrev pub step_error_number : StepError → ℕ
 step_error_number Short = no.short
@@ -31,18 +32,22 @@ step_number = of_either (λ _. no.none) step_error_number
 abbrev pub step_values : Result ⊤ StepError → List ℕ
 step_values = of_either (λ _. []) (λ _. [])
 
+-- the fault of a record is that of the step
+abbrev pub refused_read : ReadError → StepError
+refused_read read.Short = Short
+refused_read read.BadMark = BadMark
+refused_read read.BadOp = BadOp
+refused_read read.BadOperand = BadOperand
+
 -- what follows from reading a record: its fault, or its operation and its length
-unfoldable pub reading : {A : Type 0} → read.Read → (Result ⊤ StepError → A) → (ℕ → ℕ → A) → A
-reading read.TheVariants.Short f g = f (Err Short)
-reading read.TheVariants.BadMark f g = f (Err BadMark)
-reading read.TheVariants.BadOp f g = f (Err BadOp)
-reading read.TheVariants.BadOperand f g = f (Err BadOperand)
-reading (read.TheVariants.Whole op len) f g = g op len
+unfoldable pub reading : {A : Type 0} → Result Record ReadError → (Result ⊤ StepError → A) → (ℕ → ℕ → A) → A
+reading (Err e) f g = f (Err (refused_read e))
+reading (Ok r) f g = g r.op r.len
 
 -- what follows from writing a line: that there was no room, or the place past it
-unfoldable pub writing : {A : Type 0} → Written → A → (ℕ → A) → A
-writing Crowded a g = a
-writing (Upto next) a g = g next
+unfoldable pub writing : {A : Type 0} → Result ℕ RoomError → A → (ℕ → A) → A
+writing (Err e) a g = a
+writing (Ok next) a g = g next
 
 -- the line of a record
 abbrev pub text_of : ℕ → ℕ → Done → List ℕ

@@ -5,8 +5,7 @@ ghost use Rattle.oplog.specs.Run.{run_of};
 ghost use Rattle.oplog.specs.Step.{step_of, step_out};
 
 use crate::{Ran, StepError, Stepped};
-use line::Written;
-use logread::Read;
+use logread::Record;
 use operations::Tables;
 use shown::Answer;
 
@@ -18,31 +17,13 @@ pub fn step(log: &[u8], number: u64, out: &mut [u8], at: usize, t: Tables) -> St
     ensures buffer { out.new ≡ step_out log.now number out.old at t }
 {
     match logread::read_record(log) {
-        Read::Short => Stepped {
-            answer: Err(StepError::Short),
+        Err(fault) => Stepped {
+            answer: Err(StepError::from(fault)),
             used: 0,
             at,
             tables: t,
         },
-        Read::BadMark => Stepped {
-            answer: Err(StepError::BadMark),
-            used: 0,
-            at,
-            tables: t,
-        },
-        Read::BadOp => Stepped {
-            answer: Err(StepError::BadOp),
-            used: 0,
-            at,
-            tables: t,
-        },
-        Read::BadOperand => Stepped {
-            answer: Err(StepError::BadOperand),
-            used: 0,
-            at,
-            tables: t,
-        },
-        Read::Whole { op, len } => {
+        Ok(Record { op, len }) => {
             let done = operations::inner::apply(op, t, log);
             let shown = done.shown;
             let after = done.tables;
@@ -55,13 +36,13 @@ pub fn step(log: &[u8], number: u64, out: &mut [u8], at: usize, t: Tables) -> St
                 };
             }
             match line::write_line(&mut out[at..], number, op as u64, shown) {
-                Written::Upto(n) => Stepped {
+                Ok(n) => Stepped {
                     answer: Ok(()),
                     used: len,
                     at: at + n,
                     tables: after,
                 },
-                Written::NoRoom => Stepped {
+                Err(_) => Stepped {
                     answer: Err(StepError::NoRoom),
                     used: 0,
                     at,

@@ -6,8 +6,9 @@
 
 ghost use Rattle.std.specs.Prelude.{◌≡◌};
 ghost use Rattle.oplog.specs.Border.{step_call, step_leaves};
-ghost use Rattle.oplog.specs.Step.{step_error_number};
+ghost use Rattle.oplog.specs.Step.{step_error_number, refused_read};
 
+use logread::ReadError;
 use operations::Tables;
 use shown::{Answer, Shown};
 
@@ -32,6 +33,19 @@ impl Answer for StepError {
 
     fn shown(self) -> Shown {
         Shown::new(self as u8, &[])
+    }
+}
+
+impl From<ReadError> for StepError {
+    ghost from_gives = { λ e r. r ≡ refused_read e };
+
+    fn from(fault: ReadError) -> StepError {
+        match fault {
+            ReadError::Short => StepError::Short,
+            ReadError::BadMark => StepError::BadMark,
+            ReadError::BadOp => StepError::BadOp,
+            ReadError::BadOperand => StepError::BadOperand,
+        }
     }
 }
 

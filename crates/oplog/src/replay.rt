@@ -67,12 +67,12 @@ fn last(out: &mut [u8], at: usize, number: u8, offset: usize, place: Place) -> P
     ensures buffer { out.new ≡ (last_of out.old at number offset place).buffer }
 {
     match write_last(&mut out[at..], number, offset, place.done) {
-        Written::Upto(n) => Part {
+        Ok(n) => Part {
             answer: Ok(()),
             at: at + n,
             place,
         },
-        Written::NoRoom => Part {
+        Err(_) => Part {
             answer: Err(StepError::NoRoom),
             at,
             place,

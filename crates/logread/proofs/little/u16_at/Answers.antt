@@ -1,13 +1,7 @@
--- `logread::little::u16_at` meets its contract: two bytes, or nothing past the end. Assumes nothing.
-use native.Mathlib.Omega.{arith}
-use Rattle.logread.proofs.Numbers.{past}
-use mathlib.Core.Path.{sym}
-use Rattle.logread.specs.Little.{little_at}
+-- `logread::little::u16_at` meets its contract. Assumes nothing.
+use mathlib.Core.Path.{◌∙◌}
+use Rattle.logread.proofs.Numbers.{read_off}
 use Rattle.logread.proofs.little.u16_at.Goals as goal
 
-pub returns-then-at-s : goal.returns-then-at-s
-returns-then-at-s c = let a = c.args in sym (past a.s.now 2 a.at c.if-at-s.true)
-
 pub returns : goal.returns
-unfolding little_at
-returns c = omega (arith, c.byte_at-high.ensures, c.byte_at-low.ensures)
+returns c = c.from_le_bytes.ensures ∙ read_off c.args.s.now c.bytes_at.result c.args.at 1 c.bytes_at.ensures.each

@@ -1,20 +1,20 @@
 -- `oplog::replay::last` meets its contract. Assumes nothing.
 use native.Mathlib.Omega.{arith}
-use Rattle.line.proofs.Room.{lent_within}
+use Rattle.line.proofs.Room.{lent_within, refused}
 use Rattle.oplog.proofs.Replays.{had_room, crowded}
 use Rattle.oplog.proofs.replay.last.Goals as goal
 
 pub overflow_add-result : goal.overflow_add-result
-overflow_add-result c = omega (arith, lent_within c.args.out.now c.args.at _ c.requires c.write_last.ensures.answer _ c.in-Upto.is)
+overflow_add-result c = omega (arith, lent_within c.args.out.now c.args.at _ c.requires c.write_last.ensures.answer _ c.in-Ok.is)
 
-pub returns-in-Upto-clause-answer : goal.returns-in-Upto-clause-answer
-returns-in-Upto-clause-answer c = (had_room _ _ _ _ _ c.requires _ _ c.write_last.ensures.answer c.write_last.ensures.buffer _ c.in-Upto.is).0
+pub returns-in-Ok-clause-answer : goal.returns-in-Ok-clause-answer
+returns-in-Ok-clause-answer c = (had_room _ _ _ _ _ c.requires _ _ c.write_last.ensures.answer c.write_last.ensures.buffer _ c.in-Ok.is).0
 
-pub returns-in-Upto-clause-buffer : goal.returns-in-Upto-clause-buffer
-returns-in-Upto-clause-buffer c = (had_room _ _ _ _ _ c.requires _ _ c.write_last.ensures.answer c.write_last.ensures.buffer _ c.in-Upto.is).1
+pub returns-in-Ok-clause-buffer : goal.returns-in-Ok-clause-buffer
+returns-in-Ok-clause-buffer c = (had_room _ _ _ _ _ c.requires _ _ c.write_last.ensures.answer c.write_last.ensures.buffer _ c.in-Ok.is).1
 
-pub returns-in-NoRoom-clause-answer : goal.returns-in-NoRoom-clause-answer
-returns-in-NoRoom-clause-answer c = (crowded _ _ _ _ _ c.requires _ _ c.write_last.ensures.answer c.write_last.ensures.buffer c.in-NoRoom.is).0
+pub returns-in-Err-clause-answer : goal.returns-in-Err-clause-answer
+returns-in-Err-clause-answer c = (crowded _ _ _ _ _ c.requires _ _ c.write_last.ensures.answer c.write_last.ensures.buffer (refused c.in-Err.is)).0
 
-pub returns-in-NoRoom-clause-buffer : goal.returns-in-NoRoom-clause-buffer
-returns-in-NoRoom-clause-buffer c = (crowded _ _ _ _ _ c.requires _ _ c.write_last.ensures.answer c.write_last.ensures.buffer c.in-NoRoom.is).1
+pub returns-in-Err-clause-buffer : goal.returns-in-Err-clause-buffer
+returns-in-Err-clause-buffer c = (crowded _ _ _ _ _ c.requires _ _ c.write_last.ensures.answer c.write_last.ensures.buffer (refused c.in-Err.is)).1
