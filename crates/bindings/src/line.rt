@@ -1,6 +1,6 @@
 // Lines of decimal numbers on standard output. A write that fails is not told.
 use cap::Slot;
-use manifest::{BindError, Binding};
+use manifest::{BindError, Binding, bind_shown};
 use shown::{Answer, Shown};
 use std::fmt;
 
@@ -30,7 +30,7 @@ fn same_shown(a: Shown, b: Shown) -> bool {
 // Whether two bindings are one: answers, values and places.
 pub(crate) fn same(a: Binding, b: Binding) -> bool {
     let places = a.slots.iter().zip(&b.slots).all(|(s, t)| raw(s) == raw(t));
-    same_shown(a.answer.shown(), b.answer.shown()) & places
+    same_shown(bind_shown(a.answer), bind_shown(b.answer)) & places
 }
 
 pub(crate) fn write<P: Print>(to: &P, binding: Binding) {

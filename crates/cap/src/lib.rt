@@ -9,7 +9,9 @@ mod slot;
 mod word;
 
 pub use slot::{ROWS, Slot, SlotAnswer, SlotError, from_slot};
-pub use word::{WordAnswer, WordError, read_word, slot_at, slot_of, word_of, words_read};
+pub use word::{
+    WordAnswer, WordError, read_word, slot_at, slot_of, word_of, word_shown, words_read,
+};
 
 // An opaque id: a table index in the low 16 bits, the generation that it was made in above them.
 // Anyone can build any id; what makes one worthless is the table that does not open it.

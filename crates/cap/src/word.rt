@@ -1,9 +1,11 @@
 // Slots as words of 64 bits, and lists of them: 0 is vacant, 4,294,967,296 + raw holds an id, and nothing else is a word.
 ghost use Rattle.std.specs.Prelude.{◌≡◌};
-ghost use Rattle.cap.specs.Word.{word_error_number, read_word, slot_of, word_of, is_word, words_read, slot_at};
+ghost use Rattle.cap.specs.Word.{word_error_number, word_number, word_values, read_word, slot_of, word_of, is_word, words_read, slot_at};
+ghost use Rattle.shown.specs.Shown.{shown};
 
 use crate::CapId;
 use crate::slot::Slot;
+use laws::refusals;
 use shown::{Answer, Shown};
 
 const PRESENT: u64 = 4294967296;
@@ -12,7 +14,7 @@ pub type WordAnswer = Result<Slot, WordError>;
 
 #[derive(Clone, Copy, PartialEq, Eq)]
 pub enum WordError {
-    BadWord = 21,
+    BadWord = refusals::BAD_WORD as isize,
 }
 
 impl Answer for WordError {
@@ -21,6 +23,20 @@ impl Answer for WordError {
     fn shown(self) -> Shown {
         Shown::new(self as u8, &[])
     }
+}
+
+// A word that reads shows no values: the call that it is for does.
+impl Answer for Slot {
+    fn shown(self) -> Shown {
+        Shown::new(refusals::NONE, &[])
+    }
+}
+
+// What a line shows of a word that was read.
+pub fn word_shown(answer: WordAnswer) -> Shown
+    ensures { result ≡ shown (word_number answer) (word_values answer) }
+{
+    answer.shown()
 }
 
 #[tactic(auto, unfolding(crate::specs::Word::read_word, laws::specs::Pick::pick))]
@@ -61,11 +77,15 @@ fn is_word(word: u64) -> bool
     (word == 0) | (word / PRESENT == 1)
 }
 
-// Whether every word of the list reads.
+// Whether every word of the list reads. No word ends the walk early: so it goes through several words at once.
 pub fn words_read(list: &[u64]) -> bool
     ensures { result ≡ words_read list.now }
 {
-    list.iter().all(|w| is_word(*w))
+    let mut ok = true;
+    for word in list {
+        ok &= is_word(*word);
+    }
+    ok
 }
 
 // What the list holds at `i`: vacant past its end.

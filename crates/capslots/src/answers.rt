@@ -19,21 +19,21 @@ pub type TransferAnswer = Result<(), TransferError>;
 // One refusal on purpose: a slot out of range and an occupied one carry the same detail.
 #[derive(Clone, Copy, PartialEq, Eq)]
 pub enum InstallError {
-    BadSlot = 10,
+    BadSlot = refusals::BAD_SLOT as isize,
 }
 
 #[derive(Clone, Copy, PartialEq, Eq)]
 pub enum TransferError {
     // the source slot is empty or out of range
-    BadFromSlot = 11,
+    BadFromSlot = refusals::BAD_FROM_SLOT as isize,
     // the destination slot holds an id
-    ToSlotFull = 12,
+    ToSlotFull = refusals::TO_SLOT_FULL as isize,
     // the destination slot is out of range
-    ToSlotOob = 13,
+    ToSlotOob = refusals::TO_SLOT_OOB as isize,
     // what would move is no endpoint
-    Untransferable = 14,
+    Untransferable = refusals::UNTRANSFERABLE as isize,
     // a row from 54 up
-    BadRow = 19,
+    BadRow = refusals::BAD_ROW as isize,
 }
 
 impl Answer for InstallError {

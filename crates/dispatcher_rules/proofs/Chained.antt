@@ -35,10 +35,10 @@ first_closed d w =
 
 -- ---- the variants
 -- `==` at tags of five bytes is the rule's test
-one_tag : (x y : Tag) → length x.bytes ≡ 5 → length y.bytes ≡ 5 → pointwise eqb x.bytes y.bytes ≡ same_tag x y
+pub one_tag : (x y : Tag) → length x.bytes ≡ 5 → length y.bytes ≡ 5 → pointwise eqb x.bytes y.bytes ≡ same_tag x y
 one_tag x y h g = grind (arith, common_steps)
 
-one_tag_back : (x y : Tag) → length x.bytes ≡ 5 → length y.bytes ≡ 5 → pointwise eqb y.bytes x.bytes ≡ same_tag x y
+pub one_tag_back : (x y : Tag) → length x.bytes ≡ 5 → length y.bytes ≡ 5 → pointwise eqb y.bytes x.bytes ≡ same_tag x y
 one_tag_back x y h g = grind (arith, common_steps)
 
 -- the variant's tag has these bytes, as `==` tests it

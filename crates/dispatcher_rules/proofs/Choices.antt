@@ -37,6 +37,14 @@ module _ {A : Type 0} {r : A} {q p : Result CapId SlotError} (named : CapId → 
   slot_refused refused {x = OutOfRange s n} e o h = rw (← e, o) h
   slot_refused refused {x = Vacant s} e o h = rw (← e, o) h
 
+  pub slot_out : (out : ℕ → ℕ → A) (vacant : ℕ → A) (s n : ℕ) → q ≡ p → q ≡ Err (OutOfRange s n) → r ≡ out s n → r ≡ slotted p out vacant named
+  unfolding slotted
+  slot_out out vacant s n e o h = rw (← e, o) h
+
+  pub slot_vacant : (out : ℕ → ℕ → A) (vacant : ℕ → A) (s : ℕ) → q ≡ p → q ≡ Err (Vacant s) → r ≡ vacant s → r ≡ slotted p out vacant named
+  unfolding slotted
+  slot_vacant out vacant s e o h = rw (← e, o) h
+
   pub slot_names : (out : ℕ → ℕ → A) (vacant : ℕ → A) (c : CapId) → q ≡ p → q ≡ Ok c → r ≡ named c → r ≡ slotted p out vacant named
   unfolding slotted
   slot_names out vacant c e o h = rw (← e, o) h

@@ -8,6 +8,7 @@ use cap::{CapId, SlotError};
 use capslots::Table as Rows;
 use ipc_rules::answers::{CreateError, ParkAnswer, RecvAnswer, SendAnswer};
 use ipc_rules::state::{Table as Channels, Waiter};
+use laws::refusals;
 
 pub type MakeAnswer = Result<(), MakeError>;
 
@@ -33,22 +34,22 @@ pub struct OpenedJob {
 
 #[derive(Clone, Copy, PartialEq, Eq)]
 pub enum MakeError {
-    BadVariants = 37,
+    BadVariants = refusals::BAD_VARIANTS as isize,
 }
 
 #[derive(Clone, Copy, PartialEq, Eq)]
 pub enum OpenError {
     // no variant has the tag
-    NoVariant = 29,
+    NoVariant = refusals::NO_VARIANT as isize,
     // the extractor's row is from 54 up
-    BadRow = 19,
+    BadRow = refusals::BAD_ROW as isize,
     // all places are open
-    JobsFull = 30,
-    NoMailbox = 6,
-    NoEndpoint = 7,
+    JobsFull = refusals::JOBS_FULL as isize,
+    NoMailbox = refusals::NO_MAILBOX as isize,
+    NoEndpoint = refusals::NO_ENDPOINT as isize,
     // the empty slots that are needed are not there
-    BadSlot = 10,
-    BadTable = 27,
+    BadSlot = refusals::BAD_SLOT as isize,
+    BadTable = refusals::BAD_TABLE as isize,
 }
 
 impl From<CreateError> for OpenError {
@@ -65,8 +66,8 @@ impl From<CreateError> for OpenError {
 
 #[derive(Clone, Copy, PartialEq, Eq)]
 pub enum CloseError {
-    NoJob = 38,
-    BadTable = 27,
+    NoJob = refusals::NO_JOB as isize,
+    BadTable = refusals::BAD_TABLE as isize,
 }
 
 #[derive(Clone, Copy, PartialEq, Eq)]

@@ -4,8 +4,8 @@ use cap::Slot;
 use ipc_rules::state::Refusals;
 use shown::Shown;
 
-pub fn text<P: Print>(to: &P, text: &str) {
-    let _ = to.print(text);
+pub fn text<P: Print>(to: &P, bytes: &[u8]) {
+    let _ = to.write_all(bytes);
 }
 
 pub fn value<P: Print>(to: &P, n: u64) {

@@ -11,12 +11,12 @@ pub trait Tables {
 }
 
 // The most numbers that a line has.
-const ROOM: usize = 12;
+pub const ROOM: usize = 12;
 
 // Nothing says that the input ends, and a proved loop has to: no script has as many bytes, nor as many calls.
 const MOST_BYTES: u32 = u32::MAX;
 
-const MOST_CALLS: u32 = u32::MAX;
+pub const MOST_CALLS: u32 = u32::MAX;
 
 // The digits of a u64, and what follows them.
 const MOST_DIGITS: u32 = 21;
@@ -40,7 +40,7 @@ fn call_follows<R: io::Read, P: Print>(reader: &mut R, to: &P) -> bool {
         if c == 0 {
             return false;
         }
-        let _ = to.write_all(&[c]);
+        print::text(to, &[c]);
         if c == b':' {
             return true;
         }

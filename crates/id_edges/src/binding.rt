@@ -3,7 +3,6 @@ use crate::{lending, op, wrap};
 use edgescript::operands::{at, byte, refusals, rest};
 use edgescript::print;
 use manifest::{AgentEntry, Binding};
-use shown::Answer;
 
 // From here up a slot wants nothing.
 const NOTHING: u64 = 256;
@@ -21,7 +20,7 @@ fn entry(w: &[u64]) -> AgentEntry {
 
 // The answer's number, what a refusal shows, and the four places.
 fn bound<P: Print>(to: &P, b: Binding) {
-    print::answer(to, b.answer.shown());
+    print::answer(to, manifest::bind_shown(b.answer));
     print::slots(to, b.slots);
 }
 

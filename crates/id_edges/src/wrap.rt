@@ -40,7 +40,7 @@ fn ids<P: Print>(to: &P, c: Channel) {
 // How many of the creations were such that an id opened after them.
 fn turned<P: Print>(to: &P, opened: u32) {
     if opened == 0 {
-        print::text(to, " after each its ids opened nothing");
+        print::text(to, b" after each its ids opened nothing");
     } else {
         print::value(to, opened as u64);
     }
@@ -50,7 +50,7 @@ pub(crate) fn edges<P: Print>(to: &P) {
     let mut x = first();
     let c = made(x.answer);
     ids(to, c);
-    print::text(to, ", revoked at once\n65534 more creations:");
+    print::text(to, b", revoked at once\n65534 more creations:");
     let mut opened = 0;
     for i in 0..CLOSED {
         x = next(x);
@@ -59,12 +59,12 @@ pub(crate) fn edges<P: Print>(to: &P) {
         }
     }
     turned(to, opened);
-    print::text(to, "\nthe last of these:");
+    print::text(to, b"\nthe last of these:");
     ids(to, made(x.answer));
-    print::text(to, "\none more:");
+    print::text(to, b"\none more:");
     x = next(x);
     ids(to, made(x.answer));
-    print::text(to, "\nwhether its ids open now, send and receive:");
+    print::text(to, b"\nwhether its ids open now, send and receive:");
     print::value(to, opens(x.table, c.send) as u64);
     print::value(to, opens(x.table, c.recv) as u64);
 }

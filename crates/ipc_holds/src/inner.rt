@@ -3,11 +3,11 @@ ghost use Rattle.std.specs.Prelude.{◌≡◌};
 ghost use Rattle.ipc_rules.specs.Sound.{Sound};
 ghost use Rattle.ipc_rules.specs.Holds.{registered, registered_all, register_of, release_of};
 
-use cap::Slot;
+use cap::{CapRights, Slot};
 use ipc_parts::mailboxes::{fewer, more, reaps};
 use ipc_parts::opening::open;
 use ipc_rules::answers::{RegisterAnswer, RegisterError, Releasing};
-use ipc_rules::opening::{Asked, Opening};
+use ipc_rules::opening::Opening;
 use ipc_rules::state::{MAX_ENDPOINTS, NOBODY, Table};
 use shown::Answered;
 
@@ -22,7 +22,7 @@ pub fn register_one(mut t: Table, slot: Slot) -> Table
     }
     let i = slot.id.index() as usize;
     let ep = t.endpoints[i % MAX_ENDPOINTS];
-    let Opening::Opens(k) = open(i < t.sizes.endpoints, ep, slot.id, Asked::Send) else {
+    let Opening::Opens(k) = open(i < t.sizes.endpoints, ep, slot.id, CapRights::SEND) else {
         return t;
     };
     t.mailboxes[k] = more(t.mailboxes[k]);
@@ -74,7 +74,7 @@ pub fn release_holds(mut t: Table, slots: [Slot; 4]) -> Releasing
         }
         let i = slot.id.index() as usize;
         let ep = t.endpoints[i % MAX_ENDPOINTS];
-        let Opening::Opens(k) = open(i < t.sizes.endpoints, ep, slot.id, Asked::Send) else {
+        let Opening::Opens(k) = open(i < t.sizes.endpoints, ep, slot.id, CapRights::SEND) else {
             continue;
         };
         let b = &mut t.mailboxes[k];

@@ -1,7 +1,7 @@
 // Whether an id opens an endpoint, and where it does not, why: the one door to a mailbox.
 ghost use Rattle.std.specs.Prelude.{◌≡◌};
 ghost use Rattle.ipc_rules.specs.Why.{right_for};
-ghost use Rattle.ipc_rules.specs.Opening.{attempt_of, open_for};
+ghost use Rattle.ipc_rules.specs.Opening.{attempt_of, told, open_of, open_for};
 
 use cap::{CapId, CapRights};
 use ipc_rules::opening::{Asked, Opening, Reason};
@@ -41,12 +41,29 @@ pub fn right_for(asked: Asked, rights: CapRights) -> bool
     }
 }
 
-// What an id opens for what is asked, and not why it opens nothing.
-pub fn open(below: bool, ep: Endpoint, cap: CapId, asked: Asked) -> Opening
-    ensures { result ≡ open_for asked below ep cap }
+// What is told of an attempt: not why it fails.
+#[tactic(auto, unfolding(ipc_rules::specs::Opening::told))]
+fn told(attempt: Result<usize, Reason>) -> Opening
+    ensures { result ≡ told attempt }
 {
-    match attempt(below, ep, cap, right_for(asked, ep.rights)) {
+    match attempt {
         Ok(k) => Opening::Opens(k),
         Err(_) => Opening::Shut,
     }
+}
+
+// What an id opens with the rights that are needed.
+#[tactic(auto, unfolding(ipc_rules::specs::Opening::open_of))]
+pub fn open(below: bool, ep: Endpoint, cap: CapId, need: CapRights) -> Opening
+    ensures { result ≡ open_of below ep cap need }
+{
+    told(attempt(below, ep, cap, ep.rights.contains(need)))
+}
+
+// What an id opens for what is asked.
+#[tactic(auto, using(ipc_rules::proofs::Openings::told_for))]
+pub fn open_for(below: bool, ep: Endpoint, cap: CapId, asked: Asked) -> Opening
+    ensures { result ≡ open_for asked below ep cap }
+{
+    told(attempt(below, ep, cap, right_for(asked, ep.rights)))
 }

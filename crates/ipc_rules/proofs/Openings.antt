@@ -44,7 +44,7 @@ module _ {A : Type 0} {r : A} where
 pub ruleset openings = (shut, opens)
 
 -- the same of what is told of an attempt at what is asked for
-told_for : (asked : Asked) (b : Bool) (e : Endpoint) (c : CapId) → told (attempt_of b e c (right_for asked e.rights)) ≡ open_for asked b e c
+pub told_for : (asked : Asked) (b : Bool) (e : Endpoint) (c : CapId) → told (attempt_of b e c (right_for asked e.rights)) ≡ open_for asked b e c
 unfolding right_for open_of open_either open_any
 told_for Send b e c = refl
 told_for Receive b e c = refl

@@ -1,6 +1,7 @@
 // What each call answers: what it has done, or why not. A call that can change the table gives it back beside the answer.
 use crate::opening::Reason;
 use crate::state::{Channel, Message, Refusals, Table, Waiter};
+use laws::refusals;
 
 pub type NewAnswer = Result<(), NewError>;
 
@@ -46,57 +47,57 @@ pub struct Releasing {
 // ---- refusals, by their numbers
 #[derive(Clone, Copy, PartialEq, Eq)]
 pub enum NewError {
-    BadSizes = 20,
+    BadSizes = refusals::BAD_SIZES as isize,
 }
 
 #[derive(Clone, Copy, PartialEq, Eq)]
 pub enum CreateError {
-    NoMailbox = 6,
-    NoEndpoint = 7,
-    BadTable = 27,
+    NoMailbox = refusals::NO_MAILBOX as isize,
+    NoEndpoint = refusals::NO_ENDPOINT as isize,
+    BadTable = refusals::BAD_TABLE as isize,
 }
 
 #[derive(Clone, Copy, PartialEq, Eq)]
 pub enum SendError {
     // the sending row is from 54 up
-    BadRow = 19,
-    BadCap = 1,
-    Full = 2,
-    BadTable = 27,
+    BadRow = refusals::BAD_ROW as isize,
+    BadCap = refusals::BAD_CAP as isize,
+    Full = refusals::FULL as isize,
+    BadTable = refusals::BAD_TABLE as isize,
 }
 
 #[derive(Clone, Copy, PartialEq, Eq)]
 pub enum RecvError {
-    BadCap = 1,
-    Empty = 3,
-    BadTable = 27,
+    BadCap = refusals::BAD_CAP as isize,
+    Empty = refusals::EMPTY as isize,
+    BadTable = refusals::BAD_TABLE as isize,
 }
 
 #[derive(Clone, Copy, PartialEq, Eq)]
 pub enum ParkError {
-    BadCap = 1,
-    Busy = 4,
-    Cancelled = 5,
-    BadTable = 27,
+    BadCap = refusals::BAD_CAP as isize,
+    Busy = refusals::BUSY as isize,
+    Cancelled = refusals::CANCELLED as isize,
+    BadTable = refusals::BAD_TABLE as isize,
 }
 
 // Of a call with an id that refuses nothing else.
 #[derive(Clone, Copy, PartialEq, Eq)]
 pub enum CapError {
-    BadCap = 1,
-    BadTable = 27,
+    BadCap = refusals::BAD_CAP as isize,
+    BadTable = refusals::BAD_TABLE as isize,
 }
 
 #[derive(Clone, Copy, PartialEq, Eq)]
 pub enum RegisterError {
-    BadWord = 21,
-    BadTable = 27,
+    BadWord = refusals::BAD_WORD as isize,
+    BadTable = refusals::BAD_TABLE as isize,
 }
 
 // Of a call that a sound table never refuses.
 #[derive(Clone, Copy, PartialEq, Eq)]
 pub enum TableError {
-    BadTable = 27,
+    BadTable = refusals::BAD_TABLE as isize,
 }
 
 #[derive(Clone, Copy, PartialEq, Eq)]

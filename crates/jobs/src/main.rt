@@ -14,6 +14,8 @@ struct Answers {
 }
 
 impl Parts for Answers {
+    ghost reached = { λ a. a.place.offset };
+
     // A part that ends for want of room has taken a record or more, and the next goes on from there.
     fn put(&mut self, script: &[u8], out: &mut [u8]) -> Part {
         let part = jobtext::answer(script, out, self.place);
@@ -28,5 +30,5 @@ impl Parts for Answers {
 
 fn main(rt: HostRuntime) {
     let place = jobtext::begin();
-    standard::play(&rt, Answers { place });
+    standard::play(&rt, &mut Answers { place });
 }

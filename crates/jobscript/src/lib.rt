@@ -37,11 +37,11 @@ pub type StepAnswer = Result<(), StepError>;
 
 #[derive(Clone, Copy, PartialEq, Eq)]
 pub enum StepError {
-    Short = 24,
-    BadMark = 22,
-    BadOp = 23,
-    NoRoom = 26,
-    BadTable = 27,
+    Short = refusals::SHORT as isize,
+    BadMark = refusals::BAD_MARK as isize,
+    BadOp = refusals::BAD_OP as isize,
+    NoRoom = refusals::NO_ROOM as isize,
+    BadTable = refusals::BAD_TABLE as isize,
 }
 
 impl Answer for StepError {

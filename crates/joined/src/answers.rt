@@ -3,6 +3,7 @@ ghost use Rattle.joined.specs.Answers.{spawn_error_number, leave_error_number, g
 
 use capslots::Table as Rows;
 use ipc_rules::state::{Table as Channels, Waiter};
+use laws::refusals;
 use shown::{Answer, Shown};
 
 pub type SpawnAnswer = Result<(), SpawnError>;
@@ -13,22 +14,22 @@ pub type GiveAnswer = Result<(), GiveError>;
 
 #[derive(Clone, Copy, PartialEq, Eq)]
 pub enum SpawnError {
-    BadWord = 21,
-    BadRow = 19,
-    BadTable = 27,
+    BadWord = refusals::BAD_WORD as isize,
+    BadRow = refusals::BAD_ROW as isize,
+    BadTable = refusals::BAD_TABLE as isize,
 }
 
 #[derive(Clone, Copy, PartialEq, Eq)]
 pub enum LeaveError {
-    BadRow = 19,
-    BadTable = 27,
+    BadRow = refusals::BAD_ROW as isize,
+    BadTable = refusals::BAD_TABLE as isize,
 }
 
 // As for an install, a bad row, a bad slot and an occupied one are one refusal.
 #[derive(Clone, Copy, PartialEq, Eq)]
 pub enum GiveError {
-    BadSlot = 10,
-    BadTable = 27,
+    BadSlot = refusals::BAD_SLOT as isize,
+    BadTable = refusals::BAD_TABLE as isize,
 }
 
 // The waiters that letting go of the row took out stand first, in the row's order.

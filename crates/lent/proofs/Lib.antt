@@ -1,3 +1,4 @@
+pub mod Registering
 pub mod Finding
 pub mod Agree
 pub mod AsWords

@@ -5,9 +5,9 @@ use mathlib.Core.List.{List, [], ◌∷◌, ◌++◌, append_assoc, append-nil}
 use Prim.Native.Nat.{ℕ, ◌+◌, ◌<◌, ◌≤◌}
 use native.Mathlib.Numerals.{add-one}
 use native.Mathlib.Omega.{arith}
-use lib.ListN.{length, take, set, get_or, length-append}
+use lib.ListN.{length, take, drop, set, get_or, length-append}
 use lib.Seq.{take-suc, take-suc-set, take_at, length-take-le}
-use Rattle.line.specs.Line.{decimal_of, spaced_of, closed_by, line_of}
+use Rattle.line.specs.Line.{decimal_of, spaced_of, closed_by, text_of, line_of}
 
 -- a text put past a text
 pub placed : (out text rest : List ℕ) (at : ℕ) → at ≤ length out → take (at + length text) (take at out ++ (text ++ rest)) ≡ take at out ++ text
@@ -52,3 +52,10 @@ unfolding spaced_of
 pieces o₁ o₂ o₃ o₄ vs a b c d n op answer e₁ e₂ e₃ e₄ =
     e₄ ∙ ap (λ (t : List ℕ). t ++ closed_by vs) (e₃ ∙ ap (λ (t : List ℕ). t ++ (32 ∷ decimal_of answer)) (e₂ ∙ ap (λ (t : List ℕ). t ++ (32 ∷ decimal_of op)) e₁)) ∙
     simp append_assoc
+
+-- a word of three letters, copied to the front
+pub worded : (out o₁ o₂ w vs : List ℕ) (r : ℕ) → length w ≡ 3 → o₁ ≡ w ++ drop (length w) out →
+    take r o₂ ≡ take 3 o₁ ++ closed_by vs → take r o₂ ≡ text_of w vs
+worded out o₁ o₂ w vs r l f e =
+    e ∙ ap (λ (t : List ℕ). t ++ closed_by vs)
+    (ap (λ (o : List ℕ). take 3 o) f ∙ take_at w (drop (length w) out) 3 l)

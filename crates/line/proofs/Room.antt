@@ -64,6 +64,11 @@ module _ (out : List ℕ) (at : ℕ) (text : List ℕ) where
       simp (length-append, length-drop) (omega (arith, length-take-le at out (omega arith))))
       (λ _. refl)
 
+-- a text copied to the start of a buffer
+pub copied : (out text : List ℕ) → length text ≤ length out →
+    (Ok (length text) ≡ put_of out 0 text) × (text ++ drop (length text) out ≡ written out 0 text)
+copied out text h = let r = has_room out 0 text (omega arith) in simp zero-add at r
+
 -- ---- the free tail of a buffer, lent to a writer
 module _ (out : List ℕ) (at : ℕ) (text : List ℕ) (h : at ≤ length out) where
   abbrev Same : Type 0

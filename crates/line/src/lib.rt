@@ -4,8 +4,10 @@
 
 ghost use Rattle.std.specs.Prelude.{◌≡◌, ◌+◌, ◌*◌, ◌<◌, length, take};
 ghost use Rattle.line.specs.Line.{text_of, line_of, end_of, bad_of};
-ghost use Rattle.line.specs.Put.{written, put_of, room_error_number};
+ghost use Rattle.line.specs.Put.{written, put_of, room_error_number, written_number, written_values};
+ghost use Rattle.shown.specs.Shown.{shown as shown_of};
 
+use laws::refusals;
 use shown::{Answer, Shown};
 
 mod text;
@@ -18,7 +20,7 @@ pub type Written = Result<usize, RoomError>;
 
 #[derive(Clone, Copy, PartialEq, Eq)]
 pub enum RoomError {
-    NoRoom = 26,
+    NoRoom = refusals::NO_ROOM as isize,
 }
 
 impl Answer for RoomError {
@@ -27,6 +29,13 @@ impl Answer for RoomError {
     fn shown(self) -> Shown {
         Shown::new(self as u8, &[])
     }
+}
+
+// What a line would show of a line that was put, or not.
+pub fn written_shown(answer: Written) -> Shown
+    ensures { result ≡ shown_of (written_number answer) (written_values answer) }
+{
+    answer.shown()
 }
 
 // The text at the start of the free tail, if all of it fits there; else nothing of it.

@@ -2,7 +2,8 @@
 #![tactic(auto)]
 
 ghost use Rattle.std.specs.Prelude.{◌≡◌};
-ghost use Rattle.logread.specs.Read.{read_of, record_values, read_error_number};
+ghost use Rattle.logread.specs.Read.{read_of, record_values, read_error_number, read_number, read_values};
+ghost use Rattle.shown.specs.Shown.{shown};
 
 use laws::refusals;
 use shown::{Answer, Shown};
@@ -30,10 +31,10 @@ pub type Read = Result<Record, ReadError>;
 
 #[derive(Clone, Copy, PartialEq, Eq)]
 pub enum ReadError {
-    Short = 24,
-    BadMark = 22,
-    BadOp = 23,
-    BadOperand = 25,
+    Short = refusals::SHORT as isize,
+    BadMark = refusals::BAD_MARK as isize,
+    BadOp = refusals::BAD_OP as isize,
+    BadOperand = refusals::BAD_OPERAND as isize,
 }
 
 impl Answer for Record {
@@ -50,6 +51,13 @@ impl Answer for ReadError {
     fn shown(self) -> Shown {
         Shown::new(self as u8, &[])
     }
+}
+
+// What a line shows of what a log starts with.
+pub fn read_shown(read: Read) -> Shown
+    ensures { result ≡ shown (read_number read) (read_values read) }
+{
+    read.shown()
 }
 
 // A byte that is missing is Short only where the mark before it is right, and missing operands only where the operation is known.

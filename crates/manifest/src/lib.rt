@@ -3,7 +3,8 @@
 
 ghost use Rattle.std.specs.Prelude.{◌≡◌, ◌<◌};
 ghost use Rattle.cap.specs.Word.{slots_of};
-ghost use Rattle.manifest.specs.Bind.{bind_error_number, bind_error_values, refused_by, choice_from, choice_of, choices_of, taken, in_order, bind_of};
+ghost use Rattle.shown.specs.Shown.{shown};
+ghost use Rattle.manifest.specs.Bind.{bind_error_number, bind_error_values, bind_number, bind_values, refused_by, choice_from, choice_of, choices_of, taken, in_order, bind_of};
 
 use cap::Slot;
 use laws::refusals;
@@ -54,6 +55,13 @@ impl Answer for BindError {
             BindError::BadWord => Shown::new(refusals::BAD_WORD, &[]),
         }
     }
+}
+
+// What a line shows of a binding's answer.
+pub fn bind_shown(answer: BindAnswer) -> Shown
+    ensures { result ≡ shown (bind_number answer) (bind_values answer) }
+{
+    answer.shown()
 }
 
 // The four places that the entry's slots take from the held list: all vacant where it is refused.

@@ -1,5 +1,6 @@
 pub mod Generations
 pub mod Named
+pub mod Lookups
 pub mod Bands
 pub mod Free
 pub mod Mints

@@ -1,6 +1,6 @@
 -- What a mint changes and what it leaves: a refused one nothing, an accepted one the lowest free entry, which the answered id then names.
 -- Assumes nothing.
-use Rattle.std.specs.Prelude.{Some, Err, Ok, Result}
+use Rattle.std.specs.Prelude.{None, Option, Some, Err, Ok, Result}
 use mathlib.Core.Path.{◌≡◌, refl, sym, ap, ◌∙◌}
 use mathlib.Core.Bool.{Bool, true, false}
 use mathlib.Core.List.{List}
@@ -9,7 +9,7 @@ use Prim.Native.Nat.{ℕ, ◌+◌, ◌≤◌, ◌<◌}
 use native.Mathlib.Omega.{arith}
 use lib.ListN.{length, set}
 use lib.Seq.{get_or-set_same, get_or-set_other}
-use Rattle.laws.specs.Search.{lowest_free}
+use Rattle.laws.specs.Search.{found, lowest_free}
 use Rattle.laws.proofs.Cases.{all_found}
 use Rattle.laws.proofs.Search.{Lowest, lowest_at, none_free}
 use Rattle.cap.specs.Id.{id_of, class_of, generation_of}
@@ -52,6 +52,18 @@ mint_tells n base es number k P h =
     all_found P (free_entry n es) _ _
     (λ e. h (Err NoFreeEntry) es (record { full = λ i l. none_free (is_live es) 0 n e i (omega arith) l; unchanged = refl }))
     (λ i e. h (Ok _) _ (record { at = i; place = lowest_at (is_live es) 0 n i e; answer = refl; entries = refl }))
+
+-- what a mint returns that looked for a free entry and found q
+module _ {A : Type 0} {r : A} (n base : ℕ) (es : List Entry) (number : ℕ) (k : Result CapId MintError → List Entry → A) {q : Option ℕ} (is : q ≡ free_entry n es) where
+  pub none_minted : q ≡ None → r ≡ k (Err NoFreeEntry) es → r ≡ mint_with n base es number k
+  unfolding mint_with found
+  none_minted e h = h ∙ rw (← is, e)
+
+  pub one_minted :
+      {i : ℕ} {e : Entry} {c : CapId} → q ≡ Some i → e ≡ minted_entry (entry_at es i) number → c ≡ id_of (base + i) e.generation →
+      r ≡ k (Ok c) (set es i e) → r ≡ mint_with n base es number k
+  unfolding mint_with found
+  one_minted a m d h = h ∙ rw (← is, a, d, m)
 
 module _ {n base number : ℕ} {es after : List Entry} {c : CapId} (m : Accepted n base es number c after) where
   -- the other entries are left as they were

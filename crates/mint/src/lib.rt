@@ -7,6 +7,7 @@ ghost use Rattle.mint.specs.Entry.{minted_entry, names_of, is_of, ended_entry};
 ghost use Rattle.mint.specs.Answer.{mint_error_number, lookup_error_number};
 
 use cap::CapId;
+use laws::refusals;
 use shown::{Answer, Shown};
 
 pub mod inner;
@@ -37,12 +38,12 @@ pub type LookupAnswer = Result<u32, LookupError>;
 
 #[derive(Clone, Copy, PartialEq, Eq)]
 pub enum MintError {
-    NoFreeEntry = 15,
+    NoFreeEntry = refusals::NO_FREE_ENTRY as isize,
 }
 
 #[derive(Clone, Copy, PartialEq, Eq)]
 pub enum LookupError {
-    BadCap = 1,
+    BadCap = refusals::BAD_CAP as isize,
 }
 
 impl Answer for MintError {

@@ -8,6 +8,7 @@ ghost use Rattle.std.specs.Prelude.{◌≡◌};
 ghost use Rattle.oplog.specs.Border.{step_call, step_leaves};
 ghost use Rattle.oplog.specs.Step.{step_error_number, refused_read};
 
+use laws::refusals;
 use logread::ReadError;
 use operations::Tables;
 use shown::{Answer, Shown};
@@ -20,12 +21,12 @@ pub type StepAnswer = Result<(), StepError>;
 
 #[derive(Clone, Copy, PartialEq, Eq)]
 pub enum StepError {
-    Short = 24,
-    BadMark = 22,
-    BadOp = 23,
-    BadOperand = 25,
-    NoRoom = 26,
-    BadTable = 27,
+    Short = refusals::SHORT as isize,
+    BadMark = refusals::BAD_MARK as isize,
+    BadOp = refusals::BAD_OP as isize,
+    BadOperand = refusals::BAD_OPERAND as isize,
+    NoRoom = refusals::NO_ROOM as isize,
+    BadTable = refusals::BAD_TABLE as isize,
 }
 
 impl Answer for StepError {

@@ -8,6 +8,13 @@ use shown::Answer;
 use standard::{Part, Parts};
 use std::io::Input;
 
+// The tables afterwards, and whether the whole text was printed: else a read or a write failed, which is told.
+#[derive(Drop)]
+pub struct Played {
+    pub tables: Tables,
+    pub whole: bool,
+}
+
 // How far the log has been replayed.
 #[derive(Drop)]
 struct Replay {
@@ -15,6 +22,8 @@ struct Replay {
 }
 
 impl Parts for Replay {
+    ghost reached = { λ r. r.place.offset };
+
     // A part that ends for want of room has taken a record or more, and the next goes on from there.
     fn put(&mut self, log: &[u8], out: &mut [u8]) -> Part {
         let part = replay::replay(log, out, self.place);
@@ -27,9 +36,11 @@ impl Parts for Replay {
     }
 }
 
-// Plays standard input. The tables afterwards; None where a read or a write failed, which is told.
-pub fn play<R: Input + Print + Eprint>(rt: &R) -> Option<Tables> {
+// Plays standard input.
+pub fn play<R: Input + Print + Eprint>(rt: &R) -> Played {
     let place = replay::start();
-    let played = standard::play(rt, Replay { place })?;
-    Some(played.place.tables)
+    let mut text = Replay { place };
+    let whole = standard::play(rt, &mut text);
+    let tables = text.place.tables;
+    Played { tables, whole }
 }

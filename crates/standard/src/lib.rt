@@ -2,7 +2,7 @@
 // not by its exit status, and what was to follow is not printed.
 #![tactic(auto)]
 
-ghost use Rattle.std.specs.Prelude.{◌≡◌, ◌≤◌, length, take};
+ghost use Rattle.std.specs.Prelude.{◌≡◌, ◌≤◌, ℕ, IfSome, length, take};
 ghost use Rattle.standard.specs.Taken.{got_of};
 
 use std::io;
@@ -29,9 +29,13 @@ pub struct Part {
 
 // What makes a text of an input, part after part.
 pub trait Parts {
-    // Puts the next part at the start of the lent buffer.
+    // How far into the input the parts so far have come.
+    ghost reached: { Self → ℕ };
+
+    // Puts the next part at the start of the lent buffer. What goes on goes on from there.
     fn put(&mut self, input: &[u8], out: &mut [u8]) -> Part
-        ensures { result.len ≤ length out.new };
+        ensures inside { result.len ≤ length out.new }
+        ensures on { IfSome result.next (λ n. n ≡ reached self.new) };
 }
 
 pub fn room() -> [u8; ROOM]
@@ -70,19 +74,19 @@ fn print<P: Print, T: Parts>(to: &P, text: &mut T, input: &[u8], out: &mut [u8])
     }
 }
 
-// Prints the text of standard input, and hands on what made it; None where a read or a write failed, which is told.
-pub fn play<R: Input + Print + Eprint, T: Parts + Drop>(rt: &R, mut text: T) -> Option<T> {
+// Prints the text of standard input, and answers whether all of it was printed: else a read or a write failed, which is told.
+pub fn play<R: Input + Print + Eprint, T: Parts>(rt: &R, text: &mut T) -> bool {
     let mut input = room();
     let Ok(got) = take(&mut rt.reader(), &mut input) else {
         tell_unread(rt);
-        return None;
+        return false;
     };
     let mut out = [0; PART];
-    if print(rt, &mut text, &input[..got], &mut out).is_err() {
+    if print(rt, text, &input[..got], &mut out).is_err() {
         tell_unwritten(rt);
-        return None;
+        return false;
     }
-    Some(text)
+    true
 }
 
 // Tells that the input did not come, or not all of it.

@@ -6,7 +6,7 @@ ghost use Rattle.ipc_rules.specs.Revoke.{revoke_of};
 use cap::CapId;
 use ipc_parts::counts::raised;
 use ipc_parts::endpoints::killed;
-use ipc_parts::opening::open;
+use ipc_parts::opening::open_for;
 use ipc_rules::answers::{CapError, RevokeAnswer};
 use ipc_rules::opening::{Asked, Opening};
 use ipc_rules::state::{FRESH_MAILBOX, FRESH_MESSAGE, MAX_DEPTH, MAX_ENDPOINTS, Table};
@@ -20,7 +20,7 @@ pub fn revoke_channel(mut t: Table, cap: CapId) -> Answered<RevokeAnswer, Table>
 {
     let i = cap.index() as usize;
     let ep = t.endpoints[i % MAX_ENDPOINTS];
-    let Opening::Opens(k) = open(i < t.sizes.endpoints, ep, cap, Asked::Revocation) else {
+    let Opening::Opens(k) = open_for(i < t.sizes.endpoints, ep, cap, Asked::Revocation) else {
         t.counters.refusals.authority = raised(t.counters.refusals.authority);
         return Answered {
             answer: Err(CapError::BadCap),

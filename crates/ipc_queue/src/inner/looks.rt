@@ -4,8 +4,8 @@ ghost use Rattle.ipc_rules.specs.Sound.{Sound};
 ghost use Rattle.ipc_rules.specs.Observe.{queued_of, holders_of};
 ghost use Rattle.ipc_rules.specs.Why.{why_of};
 
-use cap::CapId;
-use ipc_parts::opening::{attempt, open, right_for};
+use cap::{CapId, CapRights};
+use ipc_parts::opening::{attempt, open, open_for, right_for};
 use ipc_rules::answers::{CapError, HoldersAnswer, QueuedAnswer, WhyAnswer, WhyError};
 use ipc_rules::opening::{Asked, Opening};
 use ipc_rules::state::{MAX_ENDPOINTS, Table};
@@ -17,7 +17,7 @@ pub fn queued(t: Table, cap: CapId) -> QueuedAnswer
 {
     let i = cap.index() as usize;
     let ep = t.endpoints[i % MAX_ENDPOINTS];
-    let Opening::Opens(k) = open(i < t.sizes.endpoints, ep, cap, Asked::Either) else {
+    let Opening::Opens(k) = open_for(i < t.sizes.endpoints, ep, cap, Asked::Either) else {
         return Err(CapError::BadCap);
     };
     let b = t.mailboxes[k];
@@ -31,7 +31,7 @@ pub fn send_holders(t: Table, cap: CapId) -> HoldersAnswer
 {
     let i = cap.index() as usize;
     let ep = t.endpoints[i % MAX_ENDPOINTS];
-    let Opening::Opens(k) = open(i < t.sizes.endpoints, ep, cap, Asked::Send) else {
+    let Opening::Opens(k) = open(i < t.sizes.endpoints, ep, cap, CapRights::SEND) else {
         return Err(CapError::BadCap);
     };
     let b = t.mailboxes[k];

@@ -4,13 +4,13 @@ ghost use Rattle.ipc_rules.specs.Sound.{Sound};
 ghost use Rattle.ipc_rules.specs.Send.{send_of};
 ghost use Rattle.ipc_rules.specs.Receive.{recv_of, park_of};
 
-use cap::{CapId, ROWS};
+use cap::{CapId, CapRights, ROWS};
 use ipc_parts::counts::raised;
 use ipc_parts::inner::{drained, filled, stamped};
 use ipc_parts::opening::open;
 use ipc_parts::waiters::other_waits;
 use ipc_rules::answers::{ParkAnswer, ParkError, RecvAnswer, RecvError, SendAnswer, SendError};
-use ipc_rules::opening::{Asked, Opening};
+use ipc_rules::opening::Opening;
 use ipc_rules::state::{MAX_DEPTH, MAX_ENDPOINTS, Payload, Table, TaskId, Waiter};
 use shown::Answered;
 
@@ -27,7 +27,7 @@ pub fn send(mut t: Table, cap: CapId, payload: Payload, row: usize) -> Answered<
     }
     let i = cap.index() as usize;
     let ep = t.endpoints[i % MAX_ENDPOINTS];
-    let Opening::Opens(k) = open(i < t.sizes.endpoints, ep, cap, Asked::Send) else {
+    let Opening::Opens(k) = open(i < t.sizes.endpoints, ep, cap, CapRights::SEND) else {
         t.counters.refusals.authority = raised(t.counters.refusals.authority);
         return Answered {
             answer: Err(SendError::BadCap),
@@ -59,7 +59,7 @@ pub fn try_recv(mut t: Table, cap: CapId) -> Answered<RecvAnswer, Table>
 {
     let i = cap.index() as usize;
     let ep = t.endpoints[i % MAX_ENDPOINTS];
-    let Opening::Opens(k) = open(i < t.sizes.endpoints, ep, cap, Asked::Receive) else {
+    let Opening::Opens(k) = open(i < t.sizes.endpoints, ep, cap, CapRights::RECV) else {
         t.counters.refusals.authority = raised(t.counters.refusals.authority);
         return Answered {
             answer: Err(RecvError::BadCap),
@@ -89,7 +89,7 @@ pub fn park(mut t: Table, cap: CapId, me: TaskId) -> Answered<ParkAnswer, Table>
 {
     let i = cap.index() as usize;
     let ep = t.endpoints[i % MAX_ENDPOINTS];
-    let Opening::Opens(k) = open(i < t.sizes.endpoints, ep, cap, Asked::Receive) else {
+    let Opening::Opens(k) = open(i < t.sizes.endpoints, ep, cap, CapRights::RECV) else {
         t.counters.refusals.authority = raised(t.counters.refusals.authority);
         return Answered {
             answer: Err(ParkError::BadCap),

@@ -1,12 +1,13 @@
 -- `cap::word::words_read` meets its contract. Assumes nothing.
-use Rattle.std.proofs.Common.{rules, ◌∙◌}
-use Rattle.std.proofs.lemmas.Iterator.{YieldsList-from_slice}
-use Rattle.std.proofs.lemmas.Iterator.Search.{all_from_yields_List}
-use Rattle.laws.proofs.Every.{all_every}
-use Rattle.cap.specs.Word.{is_word}
+use Rattle.std.proofs.Common.{rules}
+use Rattle.laws.proofs.Every.{every_none, every_step, every_done}
 use Rattle.cap.proofs.word.words_read.Goals as goal
 
+pub loop-word-init : goal.loop-word-init
+loop-word-init c = every_none _
+
+pub loop-word-preserved : goal.loop-word-preserved
+loop-word-preserved c = every_step _ _ _ _ c.loop-word.invariant c.is_word-ok.ensures
+
 pub returns : goal.returns
-returns c =
-    all_from_yields_List is_word _ _ _ c.all.ensures.ran (YieldsList-from_slice c.args.list.now cc) (λ x b q k. search rules)
-    ∙ all_every is_word 0 c.args.list.now
+returns c = every_done _ _ _ _ (search rules) c.loop-word-test.false c.loop-word.invariant

@@ -18,11 +18,11 @@ use Rattle.ipc_rules.specs.Revoke.{wiped, revoke_of}
 use Rattle.ipc_rules.specs.declared.state.Message.{Message}
 use Rattle.ipc_rules.proofs.Openings.{openings, opens, any_gave, any_box}
 use Rattle.ipc_life.proofs.inner.revocation.revoke_channel.Goals as goal
-use Rattle.ipc_life.proofs.inner.revocation.revoke_channel.Goals.{After-open}
+use Rattle.ipc_life.proofs.inner.revocation.revoke_channel.Goals.{After-open_for}
 
--- what `open` gave is what the rule asks
-gave : (c : After-open) → c.open.result ≡ any_right_of c.args.t c.args.cap
-gave c = any_gave _ _ _ c.requires _ c.index-i.ensures c.open.ensures
+-- what `open_for` gave is what the rule asks
+gave : (c : After-open_for) → c.open_for.result ≡ any_right_of c.args.t c.args.cap
+gave c = any_gave _ _ _ c.requires _ c.index-i.ensures c.open_for.ensures
 
 -- the first n places of mailbox k's ring, wiped one by one, are as many fresh messages pasted over them
 pasted : (ms : List Message) (k n : ℕ) → k * 8 + n ≤ length ms → wiped ms k n ≡ paste ms (k * 8) (replicate n fresh_message) n
@@ -38,12 +38,12 @@ filled ms ys k h e =
 
 pub returns-in_default : goal.returns-in_default
 unfolding revoke_of
-returns-in_default c = rw c.raised-t.ensures (search (cases, openings, gave (goal.at.returns-in_default c).After-open))
+returns-in_default c = rw c.raised-t.ensures (search (cases, openings, gave (goal.at.returns-in_default c).After-open_for))
 
 pub returns : goal.returns
 unfolding revoke_of
 returns c =
-    let within : c.in-Opens.k < 32 = any_box _ _ _ c.requires _ c.index-i.ensures c.open.ensures c.in-Opens.is in
+    let within : c.in-Opens.k < 32 = any_box _ _ _ c.requires _ c.index-i.ensures c.open_for.ensures c.in-Opens.is in
     let ends = through_done _ _ _ 64 c.requires.shape.endpoints c.loop-ep.auto.ep-index-end c.loop-ep-test.false c.loop-ep.invariant in
     let wipes = filled c.args.t.messages _ c.in-Opens.k (omega (arith, c.requires.shape.messages)) (c.fill.ensures.after (λ y e. e)) in
-    opens _ _ _ (gave (goal.at.returns c).After-open) c.in-Opens.is (rw (ends, wipes))
+    opens _ _ _ (gave (goal.at.returns c).After-open_for) c.in-Opens.is (rw (ends, wipes))

@@ -6,19 +6,19 @@ use Rattle.ipc_rules.specs.Opening.{either_of}
 use Rattle.ipc_rules.specs.Observe.{queued_of}
 use Rattle.ipc_rules.proofs.Openings.{openings, either_gave, either_within, Within}
 use Rattle.ipc_queue.proofs.inner.looks.queued.Goals as goal
-use Rattle.ipc_queue.proofs.inner.looks.queued.Goals.{After-open, In-Opens}
+use Rattle.ipc_queue.proofs.inner.looks.queued.Goals.{After-open_for, In-Opens}
 
--- what `open` gave is what the rule asks
-gave : (c : After-open) → c.open.result ≡ either_of c.args.t c.args.cap
-gave c = either_gave _ _ _ c.requires _ c.index-i.ensures c.open.ensures
+-- what `open_for` gave is what the rule asks
+gave : (c : After-open_for) → c.open_for.result ≡ either_of c.args.t c.args.cap
+gave c = either_gave _ _ _ c.requires _ c.index-i.ensures c.open_for.ensures
 
 -- what opened is a live mailbox within the arrays
 inside : (c : In-Opens) → Within c.args.t c.in-Opens.k
-inside c = either_within _ _ _ c.requires (sym (either_gave _ _ _ c.requires _ c.index-i.ensures c.open.ensures) ∙ c.in-Opens.is)
+inside c = either_within _ _ _ c.requires (sym (either_gave _ _ _ c.requires _ c.index-i.ensures c.open_for.ensures) ∙ c.in-Opens.is)
 
 pub returns-in_default : goal.returns-in_default
 unfolding queued_of
-returns-in_default c = search (cases, openings, gave (goal.at.returns-in_default c).After-open)
+returns-in_default c = search (cases, openings, gave (goal.at.returns-in_default c).After-open_for)
 
 pub offset_bounds-t-k : goal.offset_bounds-t-k
 offset_bounds-t-k c = omega (arith, inside (goal.at.offset_bounds-t-k c).In-Opens)
@@ -28,4 +28,4 @@ bounds-t-k c = omega (arith, inside (goal.at.bounds-t-k c).In-Opens)
 
 pub returns : goal.returns
 unfolding queued_of
-returns c = search (cases, openings, gave (goal.at.returns c).After-open)
+returns c = search (cases, openings, gave (goal.at.returns c).After-open_for)
