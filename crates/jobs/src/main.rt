@@ -5,7 +5,7 @@
 use jobtext::Place;
 use laws::refusals;
 use shown::Answer;
-use standard::{Part, Parts};
+use standard::{Onward, Part};
 
 // How far the script has been answered.
 #[derive(Drop)]
@@ -13,7 +13,7 @@ struct Answers {
     place: Place,
 }
 
-impl Parts for Answers {
+impl Onward for Answers {
     ghost reached = { λ a. a.place.offset };
 
     // A part that ends for want of room has taken a record or more, and the next goes on from there.
@@ -30,5 +30,5 @@ impl Parts for Answers {
 
 fn main(rt: HostRuntime) {
     let place = jobtext::begin();
-    standard::play(&rt, &mut Answers { place });
+    standard::play_onward(&rt, &mut Answers { place });
 }

@@ -5,7 +5,7 @@ use laws::refusals;
 use operations::Tables;
 use oplog::replay;
 use shown::Answer;
-use standard::{Part, Parts};
+use standard::{Onward, Part};
 use std::io::Input;
 
 // The tables afterwards, and whether the whole text was printed: else a read or a write failed, which is told.
@@ -21,7 +21,7 @@ struct Replay {
     place: replay::Place,
 }
 
-impl Parts for Replay {
+impl Onward for Replay {
     ghost reached = { λ r. r.place.offset };
 
     // A part that ends for want of room has taken a record or more, and the next goes on from there.
@@ -40,7 +40,7 @@ impl Parts for Replay {
 pub fn play<R: Input + Print + Eprint>(rt: &R) -> Played {
     let place = replay::start();
     let mut text = Replay { place };
-    let whole = standard::play(rt, &mut text);
+    let whole = standard::play_onward(rt, &mut text);
     let tables = text.place.tables;
     Played { tables, whole }
 }

@@ -8,6 +8,9 @@ ghost use Rattle.standard.specs.Taken.{got_of};
 use std::io;
 use std::io::{Eprint, Input, Print, Read};
 
+#[cfg(test)]
+mod tests;
+
 // One byte more than the longest log or script, so that a longer one shows.
 const ROOM: usize = 65537;
 
@@ -29,6 +32,13 @@ pub struct Part {
 
 // What makes a text of an input, part after part.
 pub trait Parts {
+    // Puts the next part at the start of the lent buffer.
+    fn put(&mut self, input: &[u8], out: &mut [u8]) -> Part
+        ensures { result.len ≤ length out.new };
+}
+
+// What makes a text of an input, part after part, and says how far it has come.
+pub trait Onward {
     // How far into the input the parts so far have come.
     ghost reached: { Self → ℕ };
 
@@ -62,7 +72,12 @@ pub fn take<R: Read>(reader: &mut R, input: &mut [u8]) -> Result<usize, Broken>
 }
 
 // Prints the text by way of the lent buffer. It ends where a part took nothing of the input.
-fn print<P: Print, T: Parts>(to: &P, text: &mut T, input: &[u8], out: &mut [u8]) -> io::Result<()> {
+fn print<P: Print, T: Onward>(
+    to: &P,
+    text: &mut T,
+    input: &[u8],
+    out: &mut [u8],
+) -> io::Result<()> {
     let mut offset = 0;
     loop {
         let part = text.put(input, out);
@@ -75,7 +90,7 @@ fn print<P: Print, T: Parts>(to: &P, text: &mut T, input: &[u8], out: &mut [u8])
 }
 
 // Prints the text of standard input, and answers whether all of it was printed: else a read or a write failed, which is told.
-pub fn play<R: Input + Print + Eprint, T: Parts>(rt: &R, text: &mut T) -> bool {
+pub fn play_onward<R: Input + Print + Eprint, T: Onward>(rt: &R, text: &mut T) -> bool {
     let mut input = room();
     let Ok(got) = take(&mut rt.reader(), &mut input) else {
         tell_unread(rt);
@@ -87,6 +102,34 @@ pub fn play<R: Input + Print + Eprint, T: Parts>(rt: &R, text: &mut T) -> bool {
         return false;
     }
     true
+}
+
+// Parts, and the last place that one of them told.
+#[derive(Drop)]
+struct Placed<'a, T> {
+    parts: &'a mut T,
+    next: usize,
+}
+
+impl<T: Parts> Onward for Placed<'_, T> {
+    ghost reached = { λ p. p.next };
+
+    fn put(&mut self, input: &[u8], out: &mut [u8]) -> Part {
+        let part = self.parts.put(input, out);
+        if let Some(next) = part.next {
+            self.next = next;
+        }
+        part
+    }
+}
+
+// Prints the text of standard input, and hands on what made it; None where a read or a write failed, which is told.
+pub fn play<R: Input + Print + Eprint, T: Parts + Drop>(rt: &R, mut text: T) -> Option<T> {
+    let mut placed = Placed {
+        parts: &mut text,
+        next: 0,
+    };
+    play_onward(rt, &mut placed).then_some(text)
 }
 
 // Tells that the input did not come, or not all of it.
